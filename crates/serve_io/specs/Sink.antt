@@ -1,0 +1,10 @@
+-- What a write does to the bytes that a sink took, where it tells them.
+use Rattle.std.specs.Prelude.{ℕ, ◌<◌, ◌≤◌, List, length, take, Option}
+use Rattle.std.specs.Io.KnownBytes.{Appends, Keeps}
+use Rattle.serve_io.specs.declared.sink.WriteAnswer.{WriteAnswer}
+use Rattle.serve_io.specs.declared.sink.WriteAnswer.TheVariants.{Took, Failed}
+
+-- the first n bytes were added, or the write failed and added none
+abbrev pub WriteAdds : Option (List ℕ) → Option (List ℕ) → List ℕ → WriteAnswer → Type 0
+WriteAdds old new piece (Took n) = (0 < n) × (n ≤ length piece) × Appends old new (take n piece)
+WriteAdds old new piece Failed = Keeps old new

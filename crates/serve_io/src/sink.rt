@@ -1,0 +1,26 @@
+//! Where bytes go.
+ghost use Rattle.std.specs.Prelude.{◌≡◌, ℕ, ◌<◌, List, length, Option};
+ghost use Rattle.serve_io.specs.Sink.{WriteAdds};
+ghost use Rattle.serve_io.specs.Causes.{HasCause};
+
+/// What a write took.
+#[derive(Clone, Copy, Debug, PartialEq, Eq)]
+pub enum WriteAnswer {
+    /// That many bytes, from the front of the piece.
+    Took(usize),
+    /// The write failed, and added no byte.
+    Failed,
+}
+
+/// A sink means the bytes that it took, where it tells them, and a count of faults that never falls.
+pub trait Sink {
+    ghost taken: { Self → Option (List ℕ) };
+
+    ghost faults: { Self → ℕ };
+
+    /// Writes the first bytes of the piece, which isn't empty: at least one, or none where the sink fails.
+    fn write(&mut self, piece: &[u8]) -> WriteAnswer
+        requires { 0 < length piece.now }
+        ensures bytes { WriteAdds (taken self.old) (taken self.new) piece.now result }
+        ensures cause { HasCause (faults self.old) (faults self.new) (result ≡ WriteAnswer.Failed) };
+}

@@ -1,0 +1,67 @@
+//! Readers and writers of std as sources and sinks. What these give and take is known to no contract, so they tell no bytes.
+ghost use Rattle.std.specs.Prelude.{None};
+
+use crate::sink::{Sink, WriteAnswer};
+use crate::source::{ReadAnswer, Source};
+use std::io::{Read, Write};
+
+/// A reader of std. Its errors are counted.
+#[derive(Debug, Drop)]
+pub struct ReadSource<R> {
+    inner: R,
+    faults: u64,
+}
+
+impl<R> ReadSource<R> {
+    /// A source over a reader.
+    pub fn new(inner: R) -> ReadSource<R> {
+        ReadSource { inner, faults: 0 }
+    }
+}
+
+impl<R: Read> Source for ReadSource<R> {
+    ghost left = { λ _. None };
+
+    ghost faults = { λ s. s.faults };
+
+    fn read(&mut self, room: &mut [u8]) -> ReadAnswer {
+        match self.inner.read(room) {
+            Ok(0) => ReadAnswer::End,
+            Ok(count) => ReadAnswer::Got(count),
+            Err(_) => {
+                self.faults = self.faults.saturating_add(1);
+                ReadAnswer::Failed
+            }
+        }
+    }
+}
+
+/// A writer of std. Its errors are counted, and so is a write that takes nothing.
+#[derive(Debug, Drop)]
+pub struct WriteSink<W> {
+    inner: W,
+    faults: u64,
+}
+
+impl<W> WriteSink<W> {
+    /// A sink over a writer.
+    pub fn new(inner: W) -> WriteSink<W> {
+        WriteSink { inner, faults: 0 }
+    }
+}
+
+impl<W: Write> Sink for WriteSink<W> {
+    ghost taken = { λ _. None };
+
+    ghost faults = { λ s. s.faults };
+
+    fn write(&mut self, piece: &[u8]) -> WriteAnswer {
+        match self.inner.write(piece) {
+            Ok(count) if count > 0 => WriteAnswer::Took(count),
+            _ => {
+                self.faults = self.faults.saturating_add(1);
+                WriteAnswer::Failed
+            }
+        }
+    }
+}
