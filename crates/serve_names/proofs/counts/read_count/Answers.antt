@@ -1,0 +1,23 @@
+use Rattle.std.proofs.Common.{rules, ◌≡◌, ◌∙◌, ◌+◌, ◌-◌, ◌*◌, ◌<◌, ◌≤◌, length, true, take, arith, get_or, List, ℕ, sym}
+use Rattle.std.specs.List.{list_all}
+use Rattle.std.specs.Str.Parse.{digits_value}
+use Rattle.serve_names.specs.Counts.{is_digit}
+use Rattle.serve_names.proofs.Digits.{count_step}
+use Rattle.serve_names.proofs.counts.read_count.Goals as goal
+
+pub overflow_mul-number : goal.overflow_mul-number
+overflow_mul-number c =
+    let all : list_all is_digit c.args.bytes.now ≡ true = search rules in
+    let step = count_step c.args.bytes.now c.loop-byte.byte-index c.loop-byte.number all (omega arith) (omega arith) c.loop-byte.invariant in
+    omega arith
+
+pub overflow_add-number : goal.overflow_add-number
+overflow_add-number c =
+    let all : list_all is_digit c.args.bytes.now ≡ true = search rules in
+    let step = count_step c.args.bytes.now c.loop-byte.byte-index c.loop-byte.number all (omega arith) (omega arith) c.loop-byte.invariant in
+    omega arith
+
+pub loop-byte-preserved : goal.loop-byte-preserved
+loop-byte-preserved c =
+    let all : list_all is_digit c.args.bytes.now ≡ true = search rules in
+    sym (count_step c.args.bytes.now c.loop-byte.byte-index c.loop-byte.number all (omega arith) (omega arith) c.loop-byte.invariant).0

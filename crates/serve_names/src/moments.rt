@@ -1,0 +1,61 @@
+//! Moments, in seconds from 1970-01-01T00:00:00Z, as `2024-05-01T10:00:00Z`.
+ghost use Rattle.std.specs.Prelude.{◌≡◌, ◌≤◌, ◌<◌, ◌++◌, pos, IfOk, OnOk, string_bytes};
+ghost use Rattle.jiff.specs.Words.{epoch_day, date_text};
+ghost use Rattle.serve_names.specs.Moments.{IsMomentText, moment_bytes, clock_text, last_moment};
+
+use crate::padding::two_digits;
+use jiff::ToSpan;
+use jiff::civil::{Date, date};
+use json_tree::Text;
+use std::alloc::{AllocError, Global};
+
+/// The last moment that has a text: 9999-12-31T23:59:59Z.
+pub(crate) const LAST_MOMENT: u64 = 253_402_300_799;
+
+const SECONDS_OF_DAY: u64 = 86_400;
+
+/// The date that many days after 1970-01-01.
+fn date_after(days: u64) -> Date
+    requires { days ≤ 2_932_896 }
+    ensures { epoch_day result ≡ pos days }
+{
+    date(1970, 1, 1) + (days as i64).days()
+}
+
+/// The date as `2024-05-01`.
+fn date_digits(alloc: Global, date: Date) -> Result<String, AllocError>
+    ensures { IfOk result (λ s. string_bytes s ≡ date_text date) }
+{
+    format!(in alloc; "{date}")
+}
+
+/// Adds the time of day as `T10:00:00Z`.
+fn push_clock(alloc: Global, text: &mut String, second: u64) -> Result<(), AllocError>
+    requires { second < 86_400 }
+    ensures { OnOk result (string_bytes text.new ≡ string_bytes text.old ++ clock_text second) }
+{
+    text.push_str("T")?;
+    text.push_str(two_digits(alloc, second / 3_600)?.as_str())?;
+    text.push_str(":")?;
+    text.push_str(two_digits(alloc, second / 60 % 60)?.as_str())?;
+    text.push_str(":")?;
+    text.push_str(two_digits(alloc, second % 60)?.as_str())?;
+    text.push_str("Z")?;
+    Ok(())
+}
+
+/// The moment as `2024-05-01T10:00:00Z`, of a moment up to 253,402,300,799, the last second of the
+/// year 9999.
+///
+/// The date is the civil date that lies the moment's whole days of 86,400 seconds after 1970-01-01,
+/// and the time of day is what is left of the last day. No instant is made of it, since those of
+/// `jiff` end before the last moment.
+pub fn moment_text(alloc: Global, moment: u64) -> Result<Text, AllocError>
+    requires { moment ≤ last_moment }
+    ensures text { IfOk result (λ t. t ≡ moment_bytes moment) }
+    ensures civil { IfOk result (λ t. IsMomentText moment t) }
+{
+    let mut text = date_digits(alloc, date_after(moment / SECONDS_OF_DAY))?;
+    push_clock(alloc, &mut text, moment % SECONDS_OF_DAY)?;
+    Text::new(alloc, text.as_str())
+}
