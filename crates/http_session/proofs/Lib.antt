@@ -1,0 +1,9 @@
+pub mod BlockLemmas
+pub mod FieldLemmas
+pub mod FrontLemmas
+pub mod StreamLemmas
+pub mod UniqueLemmas
+pub mod WindowLemmas
+pub mod SendLemmas
+pub mod RunLemmas
+pub mod ReadLemmas

@@ -1,0 +1,10 @@
+pub mod Block
+pub mod Fields
+pub mod Stream
+pub mod Head
+pub mod Front
+pub mod Window
+pub mod Reply
+pub mod Session
+pub mod Answering
+pub mod Desk

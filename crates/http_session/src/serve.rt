@@ -1,0 +1,43 @@
+//! A whole session.
+ghost use Rattle.std.specs.Prelude.{◌≡◌, IfOk, []};
+ghost use Rattle.http_session.specs.Session.{Finishes, state_of};
+
+use crate::desk::Desk;
+use crate::handler::Handler;
+use crate::report::{ClockMode, SessionEnd, SessionReport};
+use serve_io::{Clock, Sink, Source};
+use std::alloc::Global;
+
+/// Serves the requests of a source until its end, a fault, a bad head or a request that asks for close.
+///
+/// The handler gets the requests of the stream in order and no others, however the reads cut it, in mode `Ask` each with the
+/// clock's next moment. What it answers is written to the sink, and then it does its own work. At most 73,728 bytes are held.
+pub fn session<H: Handler, S: Source, K: Sink, C: Clock>(
+    alloc: Global,
+    handler: &mut H,
+    source: &mut S,
+    sink: &mut K,
+    clock: &mut C,
+    mode: ClockMode,
+) -> SessionReport
+    ensures finishes { Finishes H.asks H.asks_cut H.after_gives H.after_cut mode
+        (state_of handler.old (S.left source.old) (S.faults source.old) (K.taken sink.old) (K.faults sink.old) (C.moments clock.old))
+        (state_of handler.new (S.left source.new) (S.faults source.new) (K.taken sink.new) (K.faults sink.new) (C.moments clock.new))
+        result.answered result.end }
+    ensures clock { mode ≡ ClockMode.Leave → clock.new ≡ clock.old }
+{
+    let Ok(mut desk) = Desk::new(alloc) else {
+        return SessionReport {
+            end: SessionEnd::Memory,
+            answered: 0,
+        };
+    };
+    loop {
+        if let Some(end) = desk.turn(alloc, handler, source, sink, clock, mode) {
+            return SessionReport {
+                end,
+                answered: desk.answered,
+            };
+        }
+    }
+}
