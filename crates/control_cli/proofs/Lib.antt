@@ -1,0 +1,4 @@
+pub mod Replays
+pub mod Leaves
+pub mod OneWord
+pub mod Complete
