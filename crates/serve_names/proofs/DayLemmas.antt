@@ -1,13 +1,13 @@
 -- The civil date of a day, by counting and by the calendar.
-use Rattle.std.proofs.Common.{◌≡◌, ◌∙◌, ◌+◌, ◌-◌, ◌*◌, ◌/◌, ◌%◌, ◌<◌, ◌≤◌, ◌⊎◌, inl, inr, ℕ, ℤ, Bool, true, false, zero, suc, cond, pos, refl, sym, ap, ap₂, subst, arith, List, [], ◌∷◌, ◌++◌, nat_le}
-use Rattle.std.proofs.lemmas.Bool.{cases_lt, cases_Bool, cases_eq, leb-true, leb-false, le-leb, both_ways}
+use Rattle.std.proofs.Common.{◌≡◌, ◌∙◌, ◌+◌, ◌/◌, ◌%◌, ◌<◌, ◌≤◌, inl, inr, ℕ, Bool, true, false, zero, suc, cond, pos, refl, sym, ap, subst, arith, List, [], ◌∷◌, ◌++◌}
+use Rattle.std.proofs.lemmas.Bool.{cases_lt, cases_eq, leb-true, leb-false, le-leb, both_ways}
 use Rattle.jiff_core.specs.declared.civil.date.Date.{Date}
-use Rattle.jiff_core.specs.Calendar.{days_from_civil, day_count, days_in_month, days_in_year}
+use Rattle.jiff_core.specs.Calendar.{day_count, days_in_month, days_in_year}
 use Rattle.jiff_core.specs.Date.{epoch_day}
 use Rattle.jiff_core.proofs.DateLemmas.{epoch_day_injective}
 use Rattle.jiff_core.proofs.CalendarLemmas.{days_from_civil-day_count, day_count-epoch, day_count-next_year, day_count-end, day_count-next_month, day_count-last_of_year, day_count-day}
 use Rattle.jiff_core.proofs.SignedLemmas.{signed_arith}
-use Rattle.jiff_fmt.specs.Text.{date_text, year_text, pad2, pad4}
+use Rattle.jiff_fmt.specs.Text.{date_text, year_text, pad2}
 use Rattle.serve_names.specs.Moments.{IsMomentText, moment_bytes, day_bytes, clock_text, last_moment, last_such, has_begun, year_of, month_of, monthday_of}
 
 -- the greatest number of which p is true: it is at least any other, and of none above it p is true

@@ -1,10 +1,10 @@
 -- The digits that stand first.
-use Rattle.std.proofs.Common.{◌≡◌, ◌∙◌, ◌+◌, ◌<◌, ◌≤◌, ◌&&◌, ◌^◌, ℕ, Bool, true, false, zero, suc, cond, refl, sym, ap, arith, List, [], ◌∷◌, length, take, Some, get_or, drop, None, nat_lt, nat_le}
-use Rattle.std.specs.List.{list_all, prefix_len}
+use Rattle.std.proofs.Common.{◌≡◌, ◌+◌, ◌<◌, ◌≤◌, ◌&&◌, ◌^◌, ℕ, Bool, true, false, suc, cond, refl, arith, List, [], ◌∷◌, length, take, Some, None, nat_lt, nat_le}
+use Rattle.std.specs.List.{list_all}
 use Rattle.std.specs.Str.Parse.{digits_value}
 use Rattle.std.proofs.lemmas.Bool.Decides.{nat_tests}
 use Rattle.std.proofs.lemmas.Grind.{common_steps}
-use Rattle.serve_names.specs.Counts.{count_of, is_count, is_digit}
+use Rattle.serve_names.specs.Counts.{count_of, is_digit}
 use Rattle.serve_names.specs.Durations.{run_of}
 use Rattle.serve_names.proofs.Digits.{count_small}
 

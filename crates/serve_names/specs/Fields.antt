@@ -1,5 +1,5 @@
 -- The fields of a moment's text.
-use Rattle.std.specs.Prelude.{◌+◌, ◌-◌, ◌*◌, ◌/◌, ◌%◌, ◌<◌, ℕ, List, [], ◌∷◌, ◌++◌, slice_index}
+use Rattle.std.specs.Prelude.{◌+◌, ◌-◌, ◌*◌, ◌<◌, ℕ, List, [], ◌∷◌, ◌++◌, slice_index}
 use Rattle.jiff_fmt.specs.Text.{pad2, pad4}
 use Rattle.serve_names.specs.declared.fields.Fields.{Fields}
 

@@ -1,5 +1,5 @@
 -- Moments as texts.
-use Rattle.std.specs.Prelude.{◌≡◌, ◌+◌, ◌-◌, ◌*◌, ◌/◌, ◌%◌, ◌≤◌, ℕ, zero, suc, Bool, nat_le, List, [], ◌∷◌, ◌++◌, pos, if◌then◌else◌}
+use Rattle.std.specs.Prelude.{◌≡◌, ◌+◌, ◌-◌, ◌/◌, ◌%◌, ℕ, zero, suc, Bool, nat_le, List, [], ◌∷◌, ◌++◌, pos, if◌then◌else◌}
 use Rattle.jiff.specs.Words.{epoch_day, date_text}
 use Rattle.jiff_core.specs.declared.civil.date.Date.{Date}
 use Rattle.jiff_core.specs.Calendar.{day_count}

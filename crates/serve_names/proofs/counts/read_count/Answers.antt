@@ -1,6 +1,5 @@
-use Rattle.std.proofs.Common.{rules, ◌≡◌, ◌∙◌, ◌+◌, ◌-◌, ◌*◌, ◌<◌, ◌≤◌, length, true, take, arith, get_or, List, ℕ, sym}
+use Rattle.std.proofs.Common.{rules, ◌≡◌, true, arith, sym}
 use Rattle.std.specs.List.{list_all}
-use Rattle.std.specs.Str.Parse.{digits_value}
 use Rattle.serve_names.specs.Counts.{is_digit}
 use Rattle.serve_names.proofs.Digits.{count_step}
 use Rattle.serve_names.proofs.counts.read_count.Goals as goal

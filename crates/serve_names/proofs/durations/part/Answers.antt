@@ -1,4 +1,4 @@
-use Rattle.std.proofs.Common.{rules, ◌≡◌, ◌∙◌, ◌<◌, ◌^◌, sym, Some, None, ap, take, arith, ℕ, Option}
+use Rattle.std.proofs.Common.{◌≡◌, ◌∙◌, Some, None, ap, take, arith, ℕ}
 use Rattle.std.specs.Str.Parse.{digits_value}
 use Rattle.serve_names.specs.Durations.{run_of}
 use Rattle.serve_names.specs.Counts.{count_of}

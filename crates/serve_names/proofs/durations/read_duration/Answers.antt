@@ -1,4 +1,4 @@
-use Rattle.std.proofs.Common.{rules, ◌≡◌, ◌∙◌, sym, Some}
+use Rattle.std.proofs.Common.{◌∙◌}
 use Rattle.serve_names.proofs.DurationLemmas.{duration_finds, duration_if}
 use Rattle.serve_names.proofs.durations.read_duration.Goals as goal
 

@@ -1,4 +1,4 @@
-use Rattle.std.proofs.Common.{rules, ◌≡◌, ◌≤◌, ◌∙◌, pos, arith, to_z, of_z, w32, nat_abs, sym, ap, ℤ, negsuc, false, refl, true≢false}
+use Rattle.std.proofs.Common.{rules, ◌≡◌, ◌∙◌, pos, arith, to_z, of_z, w32, nat_abs, sym, ap, ℤ, negsuc, false, refl, true≢false}
 use Rattle.std.specs.Prelude.{int_lt}
 use Rattle.jiff.proofs.SpanFacts.{signed_arith}
 use Rattle.jiff.specs.Words.{epoch_day, IsYmd}

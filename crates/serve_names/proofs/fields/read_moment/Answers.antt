@@ -1,6 +1,6 @@
-use Rattle.std.proofs.Common.{rules, ◌≡◌, ◌∙◌, ◌+◌, ◌*◌, ◌<◌, ◌≤◌, ◌/◌, pos, arith, ap, sym, subst, Some, ℕ}
-use Rattle.serve_names.specs.Moments.{IsMomentText, last_moment}
-use Rattle.serve_names.specs.Fields.{AreSmall, fields_of, fields_text}
+use Rattle.std.proofs.Common.{rules, ◌≡◌, ◌∙◌, ◌+◌, ◌*◌, ◌/◌, arith, ap, sym, subst, Some, ℕ}
+use Rattle.serve_names.specs.Moments.{IsMomentText}
+use Rattle.serve_names.specs.Fields.{AreSmall, fields_text}
 use Rattle.serve_names.proofs.DayLemmas.{moment_is}
 use Rattle.serve_names.proofs.FieldLemmas.{moment_from, moment_length, read_back}
 use Rattle.serve_names.proofs.fields.read_moment.Goals as goal

@@ -1,5 +1,5 @@
-use Rattle.std.proofs.Common.{rules, ◌≡◌, ◌∙◌, ◌+ℤ◌, pos, arith, ℤ, to_z, w64, ap}
-use Rattle.jiff.specs.Words.{IsOnly, epoch_day}
+use Rattle.std.proofs.Common.{rules, ◌≡◌, ◌∙◌, pos, arith, to_z, w64}
+use Rattle.jiff.specs.Words.{IsOnly}
 use Rattle.jiff_core.specs.declared.unit.Unit.TheVariants.{Day}
 use Rattle.jiff.proofs.SpanFacts.{signed_arith, date_add-days, can_add-days}
 use Rattle.serve_names.proofs.Days.{epoch_is}

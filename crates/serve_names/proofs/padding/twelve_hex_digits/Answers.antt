@@ -1,4 +1,4 @@
-use Rattle.std.proofs.Common.{rules, ◌≡◌, ◌∙◌, ◌-◌, ◌^◌, refl, false, [], IfOk, string_bytes, Option, Some, List, ℕ, subst, option_map}
+use Rattle.std.proofs.Common.{◌≡◌, ◌∙◌, ◌-◌, ◌^◌, false, [], IfOk, string_bytes, Option, Some, List, ℕ, subst, option_map}
 use Rattle.std.specs.Prelude.{IfSome}
 use Rattle.std.specs.Fmt.{padded_integral, format_spec, digits, digits_output}
 use Rattle.std.proofs.lemmas.Result.{IfOk-weaker}

@@ -1,5 +1,5 @@
-use Rattle.std.proofs.Common.{rules, ◌≡◌, ◌∙◌, ◌-◌, ◌^◌, refl, false, [], IfOk, string_bytes}
-use Rattle.std.specs.Fmt.{padded_integral, format_spec, decimal, digits}
+use Rattle.std.proofs.Common.{◌≡◌, ◌∙◌, ◌-◌, ◌^◌, false, [], IfOk, string_bytes}
+use Rattle.std.specs.Fmt.{padded_integral, format_spec, decimal}
 use Rattle.std.proofs.lemmas.Result.{IfOk-weaker}
 use Rattle.serve_names.proofs.PaddingLemmas.{zero_padded, two_padded}
 use Rattle.serve_names.proofs.padding.two_digits.Goals as goal

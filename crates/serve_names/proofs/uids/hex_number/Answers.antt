@@ -1,6 +1,4 @@
-use Rattle.std.proofs.Common.{rules, ◌≡◌, ◌∙◌, length, true, take, arith, sym}
-use Rattle.std.specs.List.{list_all}
-use Rattle.serve_names.specs.Uids.{is_hex_digit}
+use Rattle.std.proofs.Common.{arith}
 use Rattle.serve_names.proofs.UidLemmas.{hex_more}
 use Rattle.serve_names.proofs.uids.hex_number.Goals as goal
 

@@ -1,4 +1,4 @@
-use Rattle.std.proofs.Common.{rules, ◌≡◌, ◌∙◌, sym, ap, take, drop, arith, true, Some}
+use Rattle.std.proofs.Common.{◌≡◌, ◌∙◌, sym, ap, take, drop, arith, true, Some}
 use Rattle.std.proofs.lemmas.List.{take_rest}
 use Rattle.std.specs.Str.Parse.{digits_value}
 use Rattle.serve_names.specs.Uids.{is_hex_number, prefix, uid_bytes}

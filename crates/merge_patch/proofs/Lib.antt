@@ -1,0 +1,5 @@
+pub mod Names
+pub mod MembersLemmas
+pub mod Laws
+pub mod Tables
+pub mod Steps
