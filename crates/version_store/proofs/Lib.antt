@@ -1,0 +1,14 @@
+pub mod Keyed
+pub mod Places
+pub mod Keys
+pub mod Journals
+pub mod Indexed
+pub mod States
+pub mod Present
+pub mod KindRange
+pub mod Lasts
+pub mod Step
+pub mod Prefix
+pub mod Growth
+pub mod Standing
+pub mod GuardLaws

@@ -1,0 +1,6 @@
+pub mod Laws
+pub mod State
+pub mod Journal
+pub mod Apply
+pub mod Cuts
+pub mod Index
