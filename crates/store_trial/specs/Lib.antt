@@ -1,0 +1,4 @@
+pub mod Copies
+pub mod Counted
+pub mod KeyOrder
+pub mod Thing
