@@ -1,0 +1,29 @@
+//! The objects of the control plane: their names, their parts and the six kinds, in the order of fields that their
+//! JSON form and their reader expect; and the look-ups that every controller asks of the objects that stand.
+//!
+//! Every type can be copied exactly ([`json_tree::Copied`]) and told apart exactly ([`json_tree::Alike`]). An empty
+//! text stands for an absent one. Names of owners, targets, pins, rows and statuses are simple names: they mean objects
+//! in the namespace of the object that keeps them.
+#![tactic(auto)]
+
+mod conditions;
+mod item;
+mod lookups;
+mod manifests;
+mod metadata;
+mod names;
+mod objects;
+mod specification;
+mod status;
+
+pub use conditions::{CondName, Condition, Part, Truth};
+pub use lookups::{current, in_use, is_free, latest_created, latest_ready, owner_stands, standing};
+pub use manifests::{Manifest, ManifestSpec, api_version, decimal_text, manifest_of};
+pub use metadata::{Labels, Meta, Owner};
+pub use names::{Actor, ClientKind, Controller, Key, Kind, Name, SlotKey};
+pub use objects::{Body, Object};
+pub use specification::{PodSpec, Row, Target, Template};
+pub use status::ObjectStatus;
+
+#[cfg(test)]
+mod tests;
