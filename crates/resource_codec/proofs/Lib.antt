@@ -1,0 +1,9 @@
+pub mod Loop
+pub mod Texts
+pub mod PutLemmas
+pub mod Sounds
+pub mod Inner
+pub mod Again
+pub mod Well
+pub mod Shown
+pub mod Forms

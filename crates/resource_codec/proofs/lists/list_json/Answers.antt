@@ -1,0 +1,11 @@
+use Rattle.std.proofs.Common.{◌≡◌, ◌≤◌, sym, subst, true, List}
+use Rattle.json_tree.specs.Tree.{is_well_formed, depth_of}
+use Rattle.resource_codec.specs.Reading.{Member}
+use Rattle.resource_codec.specs.Written.{object_of}
+use Rattle.resource_codec.proofs.Forms.{list_fits}
+use Rattle.resource_codec.proofs.lists.list_json.Goals as goal
+
+pub returns-clause-well : goal.returns-clause-well
+returns-clause-well c well deep =
+    let fits = list_fits c.args.items c.args.version well c.args.kind deep in
+    subst (λ (es : List Member). (is_well_formed (object_of es) ≡ true) × (depth_of (object_of es) ≤ 42)) (sym c.in_ok-list_members.ensures) (fits.well, fits.deep)

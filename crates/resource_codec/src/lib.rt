@@ -1,0 +1,25 @@
+//! Manifests and objects as JSON: `decode` reads what a client sends, or finds the first field that is wrong,
+//! `encode_manifest` writes it, and `encode` writes what is shown of an object.
+//!
+//! Want of memory is an answer of each call that takes memory, and changes nothing.
+#![tactic(auto)]
+
+mod decoding;
+mod encoding;
+mod events;
+mod fields;
+mod lists;
+mod objects;
+mod puts;
+mod reading;
+mod revisions;
+mod statuses;
+mod tables;
+mod writing;
+
+pub use decoding::decode;
+pub use encoding::{encode_manifest, have_same_bytes};
+pub use events::{poll_form, put_event, removal_event};
+pub use fields::{DecodeError, Field, TargetField, path_text};
+pub use lists::list_json;
+pub use objects::encode;
