@@ -1,0 +1,4 @@
+pub mod Changes
+pub mod Filled
+pub mod Given
+pub mod Steps

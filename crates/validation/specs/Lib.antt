@@ -1,0 +1,4 @@
+pub mod Texts
+pub mod Defaults
+pub mod Rules
+pub mod Change
