@@ -1,0 +1,5 @@
+use Rattle.api_paths.proofs.Fronts.{behind_found}
+use Rattle.api_paths.proofs.cuts.behind.Goals as goal
+
+pub returns : goal.returns
+returns c = behind_found c.args.front.now c.args.text.now c.strip_prefix.result c.strip_prefix.ensures.cases

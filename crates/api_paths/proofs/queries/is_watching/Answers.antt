@@ -1,0 +1,11 @@
+use Rattle.std.proofs.Common.{rules, ◌≡◌, ◌==◌, ℕ, List}
+use Rattle.std.proofs.lemmas.Iterator.Search.{any_from_yields_List}
+use Rattle.std.proofs.lemmas.Iterator.Splits.{YieldsList-from_slice_split}
+use Rattle.api_paths.specs.Queries as queries
+use Rattle.api_paths.proofs.queries.is_watching.Goals as goal
+
+pub returns : goal.returns
+returns c =
+    any_from_yields_List (λ (part : List ℕ). queries.is_watch_on part) _ _ c.any.result c.any.ensures.ran
+    (YieldsList-from_slice_split _ (λ (b : ℕ). b == 38) c.args.query.now c.split.ensures.rest c.split.ensures.done c.split.ensures.closure (λ x b q k. search rules))
+    (λ x b q k. search rules)

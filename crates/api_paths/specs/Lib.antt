@@ -1,0 +1,4 @@
+pub mod Paths
+pub mod Queries
+pub mod Route
+pub mod Seen
