@@ -15,3 +15,6 @@ mod versions;
 
 pub use calls::{Call, PathError};
 pub use route::route_of;
+
+#[cfg(test)]
+mod tests;
