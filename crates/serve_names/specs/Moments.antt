@@ -9,7 +9,7 @@ use Rattle.jiff_fmt.specs.Text.{pad2, pad4}
 abbrev pub last_moment : ℕ
 last_moment = 253402300799
 
--- `T10:00:00Z`, of seconds below 86,400
+-- a time of day, as `T` and `10:00:00Z`, of seconds below 86,400
 abbrev pub clock_text : ℕ → List ℕ
 clock_text s = 84 ∷ (pad2 (s / 3600) ++ (58 ∷ (pad2 (s / 60 % 60) ++ (58 ∷ (pad2 (s % 60) ++ 90 ∷ [])))))
 

@@ -29,7 +29,7 @@ fn date_digits(alloc: Global, date: Date) -> Result<String, AllocError>
     format!(in alloc; "{date}")
 }
 
-/// Adds the time of day as `T10:00:00Z`.
+/// Adds the time of day: `T`, and then as `10:00:00Z`.
 fn push_clock(alloc: Global, text: &mut String, second: u64) -> Result<(), AllocError>
     requires { second < 86_400 }
     ensures { OnOk result (string_bytes text.new ≡ string_bytes text.old ++ clock_text second) }
