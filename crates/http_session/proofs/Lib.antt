@@ -7,3 +7,4 @@ pub mod WindowLemmas
 pub mod SendLemmas
 pub mod RunLemmas
 pub mod ReadLemmas
+pub mod PieceLemmas

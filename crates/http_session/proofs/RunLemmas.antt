@@ -1,5 +1,5 @@
 -- What a session has done, from one turn to the next.
-use Rattle.std.proofs.Common.{◌≡◌, ℕ, ◌+◌, ◌-◌, ◌≤◌, List, [], ◌∷◌, ◌++◌, length, take, map, refl, arith, true, false, Option, Some, None, ap, ◌∙◌, sym, subst, length-append, append_assoc, append-nil, inl, inr}
+use Rattle.std.proofs.Common.{◌≡◌, ℕ, ◌+◌, ◌<◌, ◌≤◌, List, [], ◌∷◌, ◌++◌, length, take, map, refl, arith, true, false, Option, Some, None, ap, ◌∙◌, sym, subst, length-append, append_assoc, append-nil, inl, inr}
 use Rattle.std.specs.Io.KnownBytes.{Appends, Consumes}
 use Rattle.std.proofs.KnownBytes.{Appends-trans, Appends-nil, Consumes-trans, Consumes-nil}
 use Rattle.serve_io.specs.Causes.{Rose}
@@ -14,7 +14,7 @@ use Rattle.http_session.specs.declared.stream.StreamEnd.TheVariants as stream
 use Rattle.http_session.specs.Stream as front
 use Rattle.http_session.specs.Stream.{IsFront, IsStream, Reads}
 use Rattle.http_session.specs.Reply.{fault_bytes}
-use Rattle.http_session.specs.Session.{Exchange, exchange_bytes, asked_in, moments_in, replies_in, state_of, Run, TakesMoment, TakesMoments, SessionState, Served, IsAll, IsBounded, Finishes}
+use Rattle.http_session.specs.Session.{Exchange, exchange_bytes, asked_in, moments_in, replies_in, state_of, Run, TakesMoment, TakesMoments, SessionState, Served, IsAll, IsBounded, Answered, CutsReply, Finishes}
 use Rattle.http_session.specs.Desk.{Progress, Takes}
 use Rattle.http_session.specs.Answering.{Asks, AsksCut, RepliesTo}
 use Rattle.http_session.proofs.StreamLemmas.{Reads-append, Reads-push, IsStream-ends, IsStream-closes, BeginsWith-reads, BeginsWith-push}
@@ -147,6 +147,28 @@ served_then asks after mode start h new left rf t t' wf wf' m m' bytes done now 
   bounded = s.bounded;
 }
 
+pub cuts_reply : {H : Type 0} (asks : H → Option ℕ → Request → Reply → H → Type 0) (after : H → H → Type 0) (mode : ClockMode)
+    (start : SessionState H) (h h' : H) (left : Option (List ℕ)) (rf : ℕ) (t t' : Option (List ℕ)) (wf wf' : ℕ) (m m' : Option (List ℕ))
+    (held rest : List ℕ) (total k : ℕ) (asked : Asked)
+    → Progress asks after mode start (state_of h left rf t wf m) held total k
+    → IsFront held (front.whole asked rest)
+    → RepliesTo asks mode asked h h' m m' t t' wf wf' false
+    → CutsReply asks after mode start (state_of h' left rf t' wf' m') k
+cuts_reply asks after mode start h h' left rf t t' wf wf' m m' held rest total k asked p front r =
+    let x : Exchange = record { asked = asked; now = r.0; reply = r.1 } in
+    let cut = r.3.cut refl in record {
+      bytes = p.bytes;
+      done = p.done;
+      last = h;
+      exchange = x;
+      sent = cut.0;
+      served = served_then asks after mode start h h' left rf t t' wf wf' m m' p.bytes p.done r.0 (take cut.0 (exchange_bytes x)) p.served r.2.moment cut.2 r.3.cause.later;
+      next = (held, rest, p.reads, front);
+      asked = r.2.answered;
+      proper = cut.1;
+      count = p.answered;
+    }
+
 pub refused_at : {H : Type 0} (asks : H → Option ℕ → Request → Reply → H → Type 0) (asks_cut : H → Option ℕ → Request → H → Type 0)
     (after : H → H → Type 0) (after_cut : H → H → Type 0) (mode : ClockMode)
     (start : SessionState H) (h h' : H) (left : Option (List ℕ)) (rf : ℕ) (t t' : Option (List ℕ)) (wf wf' : ℕ) (m m' : Option (List ℕ))
@@ -155,23 +177,10 @@ pub refused_at : {H : Type 0} (asks : H → Option ℕ → Request → Reply →
     → IsFront held (front.whole asked rest)
     → RepliesTo asks mode asked h h' m m' t t' wf wf' false
     → Finishes asks asks_cut after after_cut mode start (state_of h' left rf t' wf' m') k SE.WriteFault
-refused_at asks asks_cut after after_cut mode start h h' left rf t t' wf wf' m m' held rest total k asked p front r =
-    let x : Exchange = record { asked = asked; now = r.0; reply = r.1 } in
-    let cut = r.3.cut refl in (
-      rose_since start.writes_failed wf wf' p.served.writes_later (r.3.cause.rose refl),
-      inl (record {
-        bytes = p.bytes;
-        done = p.done;
-        last = h;
-        exchange = x;
-        sent = cut.0;
-        served = served_then asks after mode start h h' left rf t t' wf wf' m m' p.bytes p.done r.0 (take cut.0 (exchange_bytes x)) p.served r.2.moment cut.2 r.3.cause.later;
-        next = (held, rest, p.reads, front);
-        asked = r.2.answered;
-        proper = cut.1;
-        count = p.answered;
-      }),
-    )
+refused_at asks asks_cut after after_cut mode start h h' left rf t t' wf wf' m m' held rest total k asked p front r = (
+  rose_since start.writes_failed wf wf' p.served.writes_later (r.3.cause.rose refl),
+  inl (cuts_reply asks after mode start h h' left rf t t' wf wf' m m' held rest total k asked p front r),
+)
 
 pub after_short : {H : Type 0} (asks : H → Option ℕ → Request → Reply → H → Type 0) (asks_cut : H → Option ℕ → Request → H → Type 0)
     (after : H → H → Type 0) (after_cut : H → H → Type 0) (mode : ClockMode)
@@ -299,6 +308,26 @@ bad_sent asks asks_cut after after_cut mode start h left rf t t' wf wf' m held t
   count = p.answered;
 }
 
+pub cuts_refusal : {H : Type 0} (asks : H → Option ℕ → Request → Reply → H → Type 0) (after : H → H → Type 0) (mode : ClockMode)
+    (start : SessionState H) (h : H) (left : Option (List ℕ)) (rf : ℕ) (t t' : Option (List ℕ)) (wf wf' : ℕ) (m : Option (List ℕ))
+    (held : List ℕ) (total k : ℕ) (fault : HeadFault)
+    → Progress asks after mode start (state_of h left rf t wf m) held total k → IsFront held (front.bad fault)
+    → Sends t t' wf wf' (fault_bytes fault) false
+    → (sent : ℕ) × (sent < length (fault_bytes fault))
+    × Answered asks after mode start (state_of h left rf t' wf' m) k (take sent (fault_bytes fault)) (λ bytes asked. IsStream bytes asked (stream.Bad fault))
+cuts_refusal asks after mode start h left rf t t' wf wf' m held total k fault p front s =
+    let cut = s.cut refl in (
+      cut.0,
+      cut.1,
+      record {
+        bytes = p.bytes;
+        done = p.done;
+        served = served_tail asks after mode start h left rf t t' wf wf' m p.bytes (take cut.0 (fault_bytes fault)) p.done p.served cut.2 s.cause.later;
+        end = IsStream-ends p.bytes (asked_in p.done) held (stream.Bad fault) p.reads front;
+        count = p.answered;
+      },
+    )
+
 pub bad_cut : {H : Type 0} (asks : H → Option ℕ → Request → Reply → H → Type 0) (asks_cut : H → Option ℕ → Request → H → Type 0)
     (after : H → H → Type 0) (after_cut : H → H → Type 0) (mode : ClockMode)
     (start : SessionState H) (h : H) (left : Option (List ℕ)) (rf : ℕ) (t t' : Option (List ℕ)) (wf wf' : ℕ) (m : Option (List ℕ))
@@ -307,20 +336,9 @@ pub bad_cut : {H : Type 0} (asks : H → Option ℕ → Request → Reply → H 
     → Sends t t' wf wf' (fault_bytes fault) false
     → Finishes asks asks_cut after after_cut mode start (state_of h left rf t' wf' m) k SE.WriteFault
 bad_cut asks asks_cut after after_cut mode start h left rf t t' wf wf' m held total k fault p front s =
-    let cut = s.cut refl in (
+    let cut = cuts_refusal asks after mode start h left rf t t' wf wf' m held total k fault p front s in (
       rose_since start.writes_failed wf wf' p.served.writes_later (s.cause.rose refl),
-      inr (
-        fault,
-        cut.0,
-        cut.1,
-        record {
-          bytes = p.bytes;
-          done = p.done;
-          served = served_tail asks after mode start h left rf t t' wf wf' m p.bytes (take cut.0 (fault_bytes fault)) p.done p.served cut.2 s.cause.later;
-          end = IsStream-ends p.bytes (asked_in p.done) held (stream.Bad fault) p.reads front;
-          count = p.answered;
-        },
-      ),
+      inr (fault, cut.0, cut.1, cut.2),
     )
 
 -- ---- the start

@@ -1,5 +1,5 @@
 -- Bytes that are written in two pieces.
-use Rattle.std.proofs.Common.{◌≡◌, ℕ, ◌+◌, ◌-◌, ◌≤◌, List, [], ◌∷◌, ◌++◌, length, take, refl, arith, ap, sym, subst, Option, length-append, true, false, suc}
+use Rattle.std.proofs.Common.{◌≡◌, ℕ, ◌+◌, ◌≤◌, List, [], ◌∷◌, ◌++◌, length, take, refl, arith, ap, sym, subst, Option, length-append, true, false, suc}
 use Rattle.std.specs.Prelude.{Bool}
 use Rattle.std.proofs.lemmas.List.{take-append-le}
 use Rattle.serve_io.specs.Causes.{Rose}

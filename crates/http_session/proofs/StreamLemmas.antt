@@ -1,4 +1,4 @@
-use Rattle.std.proofs.Common.{◌≡◌, ℕ, ◌+◌, ◌-◌, ◌≤◌, List, [], ◌∷◌, ◌++◌, length, take, drop, refl, arith, true, false, Option, Some, None, ap, ◌∙◌, suc, zero, sym, subst, length-append, length-take, length-drop}
+use Rattle.std.proofs.Common.{◌≡◌, ℕ, ◌-◌, ◌≤◌, List, [], ◌∷◌, ◌++◌, length, take, drop, refl, arith, true, false, Option, Some, None, ap, ◌∙◌, suc, zero, sym, subst, length-append, length-take, length-drop}
 use Rattle.std.specs.Prelude.{cond, Bool, nat_le, ◌==◌, slice_range}
 use Rattle.std.proofs.lemmas.Bool.{leb-true, le-leb}
 use Rattle.std.proofs.lemmas.List.{take-append-le, drop-append-le, take_all}
@@ -6,7 +6,7 @@ use Rattle.http_session.specs.declared.report.HeadFault.TheVariants.{HeadTooLarg
 use Rattle.http_session.specs.Block.{head_at, blank_len}
 use Rattle.http_session.specs.declared.message.Asked.{Asked}
 use Rattle.http_session.specs.declared.stream.StreamEnd.{StreamEnd}
-use Rattle.http_session.specs.declared.stream.StreamEnd.TheVariants.{Clean, Closed, Cut, Bad}
+use Rattle.http_session.specs.declared.stream.StreamEnd.TheVariants.{Closed}
 use Rattle.http_session.specs.Stream.{Front, whole, bad, clean, cut, without_block, IsFront, IsFrontOfBlock, EndsAs, IsStream, Reads, BeginsWith}
 use Rattle.http_session.specs.declared.front.Next.{Next}
 use Rattle.http_session.specs.declared.front.Next.TheVariants as next

@@ -29,6 +29,12 @@ RepliesTo asks mode asked old new moments_old moments_new taken_old taken_new fa
     (now : Option ℕ) × (reply : Reply) × Asks asks mode asked.request old new moments_old moments_new now reply
     × Sends taken_old taken_new failed_old failed_new (reply_bytes asked reply) sent
 
+-- no write failed
+abbrev pub kept_whole : Outcome → Bool
+kept_whole Sent = true
+kept_whole Failed = false
+kept_whole Memory = true
+
 -- what came of a request
 abbrev pub AnswersAs : {H : Type 0} → (H → Option ℕ → Request → Reply → H → Type 0) → (H → Option ℕ → Request → H → Type 0)
     → ClockMode → Asked → H → H → Option (List ℕ) → Option (List ℕ) → Option (List ℕ) → Option (List ℕ) → ℕ → ℕ → Outcome → Type 0

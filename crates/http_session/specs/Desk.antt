@@ -1,7 +1,8 @@
 -- What one turn of a session does.
-use Rattle.std.specs.Prelude.{◌≡◌, ℕ, ◌+◌, ◌<◌, ◌≤◌, List, [], ◌++◌, length, Option, Some, None}
+use Rattle.std.specs.Prelude.{◌≡◌, ℕ, ◌+◌, ◌<◌, ◌≤◌, true, List, [], ◌++◌, length, Option, Some, None}
 use Rattle.std.specs.Io.KnownBytes.{Consumes}
 use Rattle.serve_io.specs.Causes.{Rose}
+use Rattle.serve_io.specs.declared.sink.WriteAnswer.{WriteAnswer}
 use Rattle.http_session.specs.declared.desk.More.{More}
 use Rattle.http_session.specs.declared.desk.More.TheVariants.{Bytes, End, Failed, TooLong}
 use Rattle.http_session.specs.declared.report.ClockMode.{ClockMode}
@@ -11,6 +12,7 @@ use Rattle.http_session.specs.declared.message.Request.{Request}
 use Rattle.http_session.specs.declared.message.Reply.{Reply}
 use Rattle.http_session.specs.Stream.{Reads}
 use Rattle.http_session.specs.Session.{Exchange, asked_in, SessionState, Served, IsAll, Finishes}
+use Rattle.http_session.specs.Pieces.{Writer, AsksInPieces, WorksInPieces, with_sink, FinishesInPieces}
 
 -- so far all that was taken is requests that were answered, and what is held
 pub record Progress {H : Type 0} (asks : H → Option ℕ → Request → Reply → H → Type 0) (after : H → H → Type 0) (mode : ClockMode)
@@ -29,6 +31,15 @@ abbrev pub Continues : {H : Type 0} → (H → Option ℕ → Request → Reply 
 Continues asks asks_cut after after_cut mode start now held total answered None = Progress asks after mode start now held total answered
 Continues asks asks_cut after after_cut mode start now held total answered (Some end) =
     Finishes asks asks_cut after after_cut mode start now answered end
+
+-- the same of a handler beside its sink, whose replies are written in their pieces
+abbrev pub ContinuesInPieces : {H K : Type 0} → (H → Option ℕ → Request → Reply → H → Type 0) → (H → Option ℕ → Request → H → Type 0)
+    → (H → H → Type 0) → (H → H → Type 0) → (K → List ℕ → WriteAnswer → K → Type 0) → ClockMode → SessionState (Writer H K)
+    → SessionState H → K → List ℕ → ℕ → ℕ → Option SessionEnd → Type 0
+ContinuesInPieces asks asks_cut after after_cut writes mode start now sink held total answered None =
+    Progress (AsksInPieces asks writes) (WorksInPieces after) mode start (with_sink now sink true) held total answered
+ContinuesInPieces asks asks_cut after after_cut writes mode start now sink held total answered (Some end) =
+    FinishesInPieces asks asks_cut after after_cut writes mode start now sink answered end
 
 -- some bytes were taken, and stand behind those that were held
 pub record Takes (left_old left_new : Option (List ℕ)) (failed_old failed_new : ℕ) (held_old held_new : List ℕ) (total_old total_new : ℕ) : Type 0 where

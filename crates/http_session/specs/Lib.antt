@@ -6,5 +6,6 @@ pub mod Front
 pub mod Window
 pub mod Reply
 pub mod Session
+pub mod Pieces
 pub mod Answering
 pub mod Desk

@@ -1,10 +1,11 @@
 //! One request: its moment, its reply, and the writing of it.
-ghost use Rattle.std.specs.Prelude.{◌≡◌, ◌≤◌, ℕ, Option, IfOk, OnErr, IsUtf8};
+ghost use Rattle.std.specs.Prelude.{◌≡◌, ◌≤◌, ℕ, Option, true, IfOk, OnErr, IsUtf8};
 ghost use Rattle.std.specs.Option.{ForSome};
 ghost use Rattle.http_session.specs.Front.{IsFoundIn, request_at, asked_at};
 ghost use Rattle.http_session.specs.Session.{TakesMoment};
 ghost use Rattle.http_session.specs.Reply.{IsReply};
-ghost use Rattle.http_session.specs.Answering.{Asks, AsksCut, AnswersAs};
+ghost use Rattle.http_session.specs.Answering.{Asks, AsksCut, AnswersAs, kept_whole};
+ghost use Rattle.http_session.specs.Pieces.{AsksInPieces, CutsInPieces, writer_of};
 
 use crate::front::Found;
 use crate::handler::Handler;
@@ -96,6 +97,9 @@ pub(crate) fn answer<H: Handler, K: Sink, C: Clock>(
 ) -> Outcome
     requires { IsFoundIn held.now found }
     ensures answers { AnswersAs H.asks H.asks_cut mode (asked_at held.now found) handler.old handler.new
+        (C.moments clock.old) (C.moments clock.new) (K.taken sink.old) (K.taken sink.new) (K.faults sink.old) (K.faults sink.new) result }
+    ensures pieces { AnswersAs (AsksInPieces H.asks K.writes) (CutsInPieces H.asks_cut) mode (asked_at held.now found)
+        (writer_of handler.old sink.old true) (writer_of handler.new sink.new (kept_whole result))
         (C.moments clock.old) (C.moments clock.new) (K.taken sink.old) (K.taken sink.new) (K.faults sink.old) (K.faults sink.new) result }
     ensures clock { mode ≡ ClockMode.Leave → clock.new ≡ clock.old }
 {

@@ -1,9 +1,10 @@
 //! One turn of a session.
-ghost use Rattle.std.specs.Prelude.{◌≡◌, ◌≢◌, ◌+◌, ◌≤◌, ◌<◌, ◌^◌, ◌-◌, ◌*◌, ℕ, List, Option, IfNone, IfOk, length, drop, []};
+ghost use Rattle.std.specs.Prelude.{◌≡◌, ◌≢◌, ◌+◌, ◌≤◌, ◌<◌, ◌^◌, ◌-◌, ◌*◌, ℕ, List, Option, IfNone, IfOk, length, drop, [], true};
 ghost use Rattle.http_session.specs.Front.{IsFoundIn, asked_at};
 ghost use Rattle.http_session.specs.Stream.{IsFront, whole};
 ghost use Rattle.http_session.specs.Session.{state_of};
-ghost use Rattle.http_session.specs.Desk.{Progress, Continues, Refills, end_after};
+ghost use Rattle.http_session.specs.Desk.{Progress, Continues, ContinuesInPieces, Refills, end_after};
+ghost use Rattle.http_session.specs.Pieces.{AsksInPieces, WorksInPieces, with_sink};
 
 use crate::answering::{Outcome, answer};
 use crate::front::{Found, Next, read_next};
@@ -50,6 +51,13 @@ fn serve_one<H: Handler, K: Sink, C: Clock>(
         (state_of handler.old left failed (K.taken sink.old) (K.faults sink.old) (C.moments clock.old)) window.old total answered.old
         → Continues H.asks H.asks_cut H.after_gives H.after_cut mode start
         (state_of handler.new left failed (K.taken sink.new) (K.faults sink.new) (C.moments clock.new)) window.new total answered.new result }
+    ensures pieces { (start : _) (left : Option (List ℕ)) (failed total : ℕ)
+        → Progress (AsksInPieces H.asks K.writes) (WorksInPieces H.after_gives) mode start
+        (with_sink (state_of handler.old left failed (K.taken sink.old) (K.faults sink.old) (C.moments clock.old)) sink.old true)
+        window.old total answered.old
+        → ContinuesInPieces H.asks H.asks_cut H.after_gives H.after_cut K.writes mode start
+        (state_of handler.new left failed (K.taken sink.new) (K.faults sink.new) (C.moments clock.new)) sink.new
+        window.new total answered.new result }
 {
     match answer(
         alloc,
@@ -182,6 +190,13 @@ impl Desk {
             self.old.window self.old.total self.old.answered
             → Continues H.asks H.asks_cut H.after_gives H.after_cut mode start
             (state_of handler.new (S.left source.new) (S.faults source.new) (K.taken sink.new) (K.faults sink.new) (C.moments clock.new))
+            self.new.window self.new.total self.new.answered result }
+        ensures pieces { (start : _)
+            → Progress (AsksInPieces H.asks K.writes) (WorksInPieces H.after_gives) mode start
+            (with_sink (state_of handler.old (S.left source.old) (S.faults source.old) (K.taken sink.old) (K.faults sink.old) (C.moments clock.old)) sink.old true)
+            self.old.window self.old.total self.old.answered
+            → ContinuesInPieces H.asks H.asks_cut H.after_gives H.after_cut K.writes mode start
+            (state_of handler.new (S.left source.new) (S.faults source.new) (K.taken sink.new) (K.faults sink.new) (C.moments clock.new)) sink.new
             self.new.window self.new.total self.new.answered result }
     {
         match read_next(self.window.held()) {

@@ -2,6 +2,7 @@
 ghost use Rattle.std.specs.Prelude.{◌≡◌, ◌++◌, length};
 ghost use Rattle.serve_io.specs.Whole.{Sends};
 ghost use Rattle.http_session.specs.Reply.{head_bytes, fault_bytes, reply_body, IsReplyCode};
+ghost use Rattle.http_session.specs.Pieces.{WritesPieces, reply_pieces, fault_pieces};
 
 use crate::fault::{body_of, code_of};
 use crate::message::{Allow, Reply};
@@ -11,7 +12,8 @@ use serve_io::{Sink, write_whole};
 
 /// Writes a head, and then a body. False where a write failed.
 fn send_both<K: Sink>(sink: &mut K, head: &[u8], body: &[u8]) -> bool
-    ensures { Sends (K.taken sink.old) (K.taken sink.new) (K.faults sink.old) (K.faults sink.new) (head.now ++ body.now) result }
+    ensures sends { Sends (K.taken sink.old) (K.taken sink.new) (K.faults sink.old) (K.faults sink.new) (head.now ++ body.now) result }
+    ensures pieces { WritesPieces K.writes sink.old (record { head = head.now; body = body.now }) result sink.new }
 {
     write_whole(sink, head) && write_whole(sink, body)
 }
@@ -19,7 +21,8 @@ fn send_both<K: Sink>(sink: &mut K, head: &[u8], body: &[u8]) -> bool
 /// Writes the refusal of a head. False where a write failed.
 #[tactic(auto, unfolding(crate::specs::Reply::fault_bytes))]
 pub(crate) fn send_fault<K: Sink>(room: &mut Room, sink: &mut K, fault: HeadFault) -> bool
-    ensures { Sends (K.taken sink.old) (K.taken sink.new) (K.faults sink.old) (K.faults sink.new) (fault_bytes fault) result }
+    ensures sends { Sends (K.taken sink.old) (K.taken sink.new) (K.faults sink.old) (K.faults sink.new) (fault_bytes fault) result }
+    ensures pieces { WritesPieces K.writes sink.old (fault_pieces fault) result sink.new }
 {
     let body = body_of(fault);
     room.put_head(true, code_of(fault), Allow::None, body.len());
@@ -35,8 +38,9 @@ pub(crate) fn send_reply<K: Sink>(
     reply: &Reply,
 ) -> bool
     requires { IsReplyCode reply.now.code }
-    ensures { Sends (K.taken sink.old) (K.taken sink.new) (K.faults sink.old) (K.faults sink.new)
+    ensures sends { Sends (K.taken sink.old) (K.taken sink.new) (K.faults sink.old) (K.faults sink.new)
         (head_bytes closes reply.now.code reply.now.allow (length reply.now.body) ++ reply_body method.now reply.now) result }
+    ensures pieces { WritesPieces K.writes sink.old (reply_pieces closes method.now reply.now) result sink.new }
 {
     let body = reply.body.as_slice();
     room.put_head(closes, reply.code, reply.allow, body.len());

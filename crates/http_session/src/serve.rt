@@ -1,6 +1,7 @@
 //! A whole session.
-ghost use Rattle.std.specs.Prelude.{◌≡◌, IfOk, []};
+ghost use Rattle.std.specs.Prelude.{◌≡◌, IfOk, [], true};
 ghost use Rattle.http_session.specs.Session.{Finishes, state_of};
+ghost use Rattle.http_session.specs.Pieces.{HandsOver, FinishesInPieces, with_sink};
 
 use crate::desk::Desk;
 use crate::handler::Handler;
@@ -11,7 +12,8 @@ use std::alloc::Global;
 /// Serves the requests of a source until its end, a fault, a bad head or a request that asks for close.
 ///
 /// The handler gets the requests of the stream in order and no others, however the reads cut it, in mode `Ask` each with the
-/// clock's next moment. What it answers is written to the sink, and then it does its own work. At most 73,728 bytes are held.
+/// clock's next moment. What it answers is written to the sink, its head and after that its body, each call of `write` being
+/// given the whole rest, and then it does its own work. At most 73,728 bytes are held.
 pub fn session<H: Handler, S: Source, K: Sink, C: Clock>(
     alloc: Global,
     handler: &mut H,
@@ -23,6 +25,11 @@ pub fn session<H: Handler, S: Source, K: Sink, C: Clock>(
     ensures finishes { Finishes H.asks H.asks_cut H.after_gives H.after_cut mode
         (state_of handler.old (S.left source.old) (S.faults source.old) (K.taken sink.old) (K.faults sink.old) (C.moments clock.old))
         (state_of handler.new (S.left source.new) (S.faults source.new) (K.taken sink.new) (K.faults sink.new) (C.moments clock.new))
+        result.answered result.end }
+    ensures pieces { HandsOver K.writes sink.old sink.new result.answered result.end }
+    ensures exchanges { FinishesInPieces H.asks H.asks_cut H.after_gives H.after_cut K.writes mode
+        (with_sink (state_of handler.old (S.left source.old) (S.faults source.old) (K.taken sink.old) (K.faults sink.old) (C.moments clock.old)) sink.old true)
+        (state_of handler.new (S.left source.new) (S.faults source.new) (K.taken sink.new) (K.faults sink.new) (C.moments clock.new)) sink.new
         result.answered result.end }
     ensures clock { mode ≡ ClockMode.Leave → clock.new ≡ clock.old }
 {

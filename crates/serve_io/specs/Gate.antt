@@ -51,8 +51,8 @@ GivesNext ends old new (Connection input output) = TakesFirst old new (ends inpu
 GivesNext ends old new Closed = NoneComes old × (new ≡ old)
 GivesNext ends old new Failed = new ≡ old
 
--- where a connection was given, one at least is out
-abbrev pub CountsOut : {I O : Type 0} → ℕ → Next I O → Type 0
-CountsOut count (Connection input output) = 1 ≤ count
-CountsOut count Closed = ⊤
-CountsOut count Failed = ⊤
+-- where a connection was given, one at least is out, and where none was, as many as before
+abbrev pub CountsOut : {I O : Type 0} → ℕ → ℕ → Next I O → Type 0
+CountsOut old new (Connection input output) = 1 ≤ new
+CountsOut old new Closed = new ≡ old
+CountsOut old new Failed = new ≡ old

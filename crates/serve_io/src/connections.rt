@@ -1,5 +1,5 @@
 //! Connections in memory: those to come, and those that were handed back.
-ghost use Rattle.std.specs.Prelude.{◌≡◌, ◌≤◌, ◌+◌, true, false, [], ◌∷◌, ◌++◌, length, IfOk, IfSome, IfNone};
+ghost use Rattle.std.specs.Prelude.{◌≡◌, ◌≤◌, ◌+◌, ◌-◌, true, false, [], ◌∷◌, ◌++◌, length, IfOk, IfSome, IfNone};
 ghost use Rattle.std.specs.VecDeque.{deque_len};
 ghost use Rattle.std.specs.Vec.{vec_len, vec_capacity};
 
@@ -10,7 +10,8 @@ use std::collections::VecDeque;
 /// The most bytes of an address.
 pub(crate) const MOST_ADDRESS: usize = 255;
 
-/// The place for all ends and for the address is reserved when it is made.
+/// The place for all ends and for the address is reserved when it is made. `out` counts the connections that were given, less
+/// those that were handed back.
 #[derive(Debug, Drop)]
 pub(crate) struct Connections<I, O> {
     pub coming: VecDeque<(I, O)>,
@@ -29,6 +30,7 @@ impl<I: Drop, O: Drop> Connections<I, O> {
         ensures back { IfOk result (λ c. c.back.items ≡ []) }
         ensures listens { IfOk result (λ c. c.listens ≡ false) }
         ensures address { IfOk result (λ c. c.address.items ≡ []) }
+        ensures out { IfOk result (λ c. c.out ≡ 0) }
     {
         let back = Vec::with_capacity(alloc, connections.len())?;
         let address = Vec::with_capacity(alloc, MOST_ADDRESS)?;
@@ -48,6 +50,7 @@ impl<I: Drop, O: Drop> Connections<I, O> {
         ensures address { self.new.address.items ≡ address.now }
         ensures coming { self.new.coming ≡ self.old.coming }
         ensures back { self.new.back ≡ self.old.back }
+        ensures out { self.new.out ≡ self.old.out }
     {
         self.address.clear();
         let _ = self.address.extend_from_slice(address.bytes());
@@ -59,7 +62,8 @@ impl<I: Drop, O: Drop> Connections<I, O> {
         ensures some { IfSome result (λ ends. self.old.coming.items ≡ ends ∷ self.new.coming.items) }
         ensures none { IfNone result (self.old.coming.items ≡ []) }
         ensures same { IfNone result (self.new.coming.items ≡ self.old.coming.items) }
-        ensures out { IfSome result (λ ends. 1 ≤ self.new.out) }
+        ensures given { IfSome result (λ ends. self.new.out ≡ self.old.out + 1) }
+        ensures out { IfNone result (self.new.out ≡ self.old.out) }
         ensures back { self.new.back ≡ self.old.back }
         ensures address { self.new.address ≡ self.old.address }
         ensures listens { self.new.listens ≡ self.old.listens }
@@ -76,6 +80,7 @@ impl<I: Drop, O: Drop> Connections<I, O> {
         ensures coming { self.new.coming ≡ self.old.coming }
         ensures address { self.new.address ≡ self.old.address }
         ensures listens { self.new.listens ≡ self.old.listens }
+        ensures out { self.new.out ≡ self.old.out - 1 }
     {
         self.out -= 1;
         let _ = self.back.push((input, output));

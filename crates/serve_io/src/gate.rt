@@ -1,5 +1,5 @@
 //! Where connections come from.
-ghost use Rattle.std.specs.Prelude.{◌≡◌, ℕ, ◌<◌, ◌≤◌, Bool, true, List, length, Option};
+ghost use Rattle.std.specs.Prelude.{◌≡◌, ℕ, ◌+◌, ◌<◌, ◌≤◌, Bool, true, List, length, Option};
 ghost use Rattle.serve_io.specs.Causes.{HasCause};
 ghost use Rattle.serve_io.specs.Gate.{Ends, ends_of, ListensAt, GivesNext, CountsOut, AddsBack};
 
@@ -54,13 +54,14 @@ pub trait Gate {
         ensures listens { ListensAt (listens self.old) (listens self.new) (listening_at self.old) (listening_at self.new) address.now result }
         ensures coming { coming self.new ≡ coming self.old }
         ensures back { back self.new ≡ back self.old }
+        ensures out { out self.new ≡ out self.old }
         ensures cause { HasCause (faults self.old) (faults self.new) (result ≡ Listened.Failed) };
 
     /// The next connection, of a gate that listens.
     fn next(&mut self) -> Next<Self::In, Self::Out>
         requires { listens self.old ≡ true }
         ensures gives { GivesNext (ends_of Self.In.left Self.In.faults Self.Out.taken Self.Out.faults) (coming self.old) (coming self.new) result }
-        ensures out { CountsOut (out self.new) result }
+        ensures out { CountsOut (out self.old) (out self.new) result }
         ensures back { back self.new ≡ back self.old }
         ensures listens { listens self.new ≡ listens self.old }
         ensures address { listening_at self.new ≡ listening_at self.old }
@@ -73,5 +74,6 @@ pub trait Gate {
         ensures coming { coming self.new ≡ coming self.old }
         ensures listens { listens self.new ≡ listens self.old }
         ensures address { listening_at self.new ≡ listening_at self.old }
+        ensures out { out self.old ≤ out self.new + 1 }
         ensures count { faults self.old ≤ faults self.new };
 }

@@ -30,6 +30,7 @@ impl MemGate {
             ⟦<MemSource as Source>⟧.left ⟦<MemSource as Source>⟧.faults ⟦<MemSink as Sink>⟧.taken ⟦<MemSink as Sink>⟧.faults c.0 c.1) connections.items)) }
         ensures back { IfOk result (λ g. ⟦<MemGate as Gate>⟧.back g ≡ Some []) }
         ensures listens { IfOk result (λ g. ⟦<MemGate as Gate>⟧.listens g ≡ false) }
+        ensures out { IfOk result (λ g. ⟦<MemGate as Gate>⟧.out g ≡ 0) }
         ensures faults { IfOk result (λ g. ⟦<MemGate as Gate>⟧.faults g ≡ 0) }
     {
         Ok(MemGate {

@@ -1,5 +1,7 @@
 //! A sink in memory.
 ghost use Rattle.std.specs.Prelude.{◌≡◌, ℕ, ◌≤◌, List, [], Some, IfOk};
+ghost use Rattle.std.specs.Vec.{vec_capacity};
+ghost use Rattle.serve_io.specs.MemRoom.{MemWrites, room_of};
 
 use crate::calls::Calls;
 use crate::sink::{Sink, WriteAnswer};
@@ -13,6 +15,7 @@ pub struct MemSink {
     most: usize,
     calls: Calls,
     ghost some: { 1 ≤ most },
+    ghost place: { room ≤ vec_capacity bytes },
 }
 
 impl MemSink {
@@ -26,6 +29,9 @@ impl MemSink {
         requires { 1 ≤ most }
         ensures taken { IfOk result (λ s. ⟦<MemSink as Sink>⟧.taken s ≡ Some []) }
         ensures faults { IfOk result (λ s. ⟦<MemSink as Sink>⟧.faults s ≡ 0) }
+        ensures room { IfOk result (λ s. s.room ≡ room) }
+        ensures most { IfOk result (λ s. s.most ≡ most) }
+        ensures calls { IfOk result (λ s. s.calls ≡ record { failing = failing; count = 0; faults = 0 }) }
     {
         Ok(MemSink {
             bytes: Vec::with_capacity(alloc, room)?,
@@ -48,6 +54,9 @@ impl Sink for MemSink {
 
     ghost faults = { λ s. s.calls.faults };
 
+    ghost writes = { λ old piece answer new.
+        MemWrites (room_of old.bytes.items old.room old.most old.calls) piece answer (room_of new.bytes.items new.room new.most new.calls) };
+
     fn write(&mut self, piece: &[u8]) -> WriteAnswer {
         if self.calls.next_fails() {
             return WriteAnswer::Failed;
@@ -57,10 +66,11 @@ impl Sink for MemSink {
             .saturating_sub(self.bytes.len())
             .min(self.most)
             .min(piece.len());
-        if count == 0 || self.bytes.extend_from_slice(&piece[..count]).is_err() {
+        if count == 0 {
             self.calls.fault();
             return WriteAnswer::Failed;
         }
+        let _ = self.bytes.extend_from_slice(&piece[..count]);
         WriteAnswer::Took(count)
     }
 }

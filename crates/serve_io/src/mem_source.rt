@@ -21,6 +21,8 @@ impl MemSource {
         requires { 1 ≤ most }
         ensures left { ⟦<MemSource as Source>⟧.left result ≡ Some bytes.items }
         ensures faults { ⟦<MemSource as Source>⟧.faults result ≡ 0 }
+        ensures most { result.most ≡ most }
+        ensures calls { result.calls ≡ record { failing = failing; count = 0; faults = 0 } }
     {
         MemSource {
             bytes,

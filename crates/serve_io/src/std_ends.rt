@@ -1,5 +1,6 @@
 //! Readers and writers of std as sources and sinks. What these give and take is known to no contract, so they tell no bytes.
 ghost use Rattle.std.specs.Prelude.{None};
+ghost use Rattle.serve_io.specs.Sink.{WritesThrough};
 
 use crate::sink::{Sink, WriteAnswer};
 use crate::source::{ReadAnswer, Source};
@@ -54,6 +55,8 @@ impl<W: Write> Sink for WriteSink<W> {
     ghost taken = { λ _. None };
 
     ghost faults = { λ s. s.faults };
+
+    ghost writes = { λ old piece answer new. WritesThrough (W.contents old.inner) (W.contents new.inner) old.faults new.faults piece answer };
 
     fn write(&mut self, piece: &[u8]) -> WriteAnswer {
         match self.inner.write(piece) {

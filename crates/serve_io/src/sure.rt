@@ -1,6 +1,7 @@
 //! Ends that never fail: their counts of faults are 0.
 ghost use Rattle.std.specs.Prelude.{◌≡◌, ℕ, ◌≤◌, List, [], length, Some, None, drop, false, IfOk, map};
 ghost use Rattle.serve_io.specs.Gate.{ends_of};
+ghost use Rattle.serve_io.specs.declared.sink.WriteAnswer.TheVariants.{Took};
 
 use crate::connections::Connections;
 use crate::gate::{Gate, Listened, Next};
@@ -59,6 +60,8 @@ impl Sink for SureSink {
 
     ghost faults = { λ _. 0 };
 
+    ghost writes = { λ old piece answer new. (answer ≡ Took (length piece)) × (new ≡ old) };
+
     fn write(&mut self, piece: &[u8]) -> WriteAnswer {
         WriteAnswer::Took(piece.len())
     }
@@ -80,6 +83,7 @@ impl SureGate {
             ⟦<SureSource as Source>⟧.left ⟦<SureSource as Source>⟧.faults ⟦<SureSink as Sink>⟧.taken ⟦<SureSink as Sink>⟧.faults c.0 c.1) connections.items)) }
         ensures back { IfOk result (λ g. ⟦<SureGate as Gate>⟧.back g ≡ Some []) }
         ensures listens { IfOk result (λ g. ⟦<SureGate as Gate>⟧.listens g ≡ false) }
+        ensures out { IfOk result (λ g. ⟦<SureGate as Gate>⟧.out g ≡ 0) }
     {
         Ok(SureGate {
             connections: Connections::new(alloc, connections)?,

@@ -1,5 +1,6 @@
-use Rattle.std.proofs.Common.{◌≡◌, ◌≤◌, ◌+◌, ◌*◌, ◌-◌, length}
+use Rattle.std.proofs.Common.{◌≡◌, ◌≤◌, ◌+◌, ◌*◌, ◌-◌, length, true}
 use Rattle.http_session.specs.Desk.{Progress}
+use Rattle.http_session.specs.Pieces.{AsksInPieces, WorksInPieces, with_sink}
 use Rattle.http_session.specs.Session.{state_of}
 use Rattle.http_session.specs.declared.report.ClockMode.TheVariants.{Leave}
 use Rattle.http_session.proofs.serve.session.Given as goal
@@ -13,6 +14,11 @@ invariant-loop-end g l = record {
       Progress g.H.Handler.asks g.H.Handler.after_gives l.mode
       (state_of l.initial.handler (g.S.Source.left l.initial.source) (g.S.Source.faults l.initial.source) (g.K.Sink.taken l.initial.sink) (g.K.Sink.faults l.initial.sink) (g.C.Clock.moments l.initial.clock))
       (state_of l.handler (g.S.Source.left l.source) (g.S.Source.faults l.source) (g.K.Sink.taken l.sink) (g.K.Sink.faults l.sink) (g.C.Clock.moments l.clock))
+      l.desk.window l.desk.total l.desk.answered;
+  pieces :
+      Progress (AsksInPieces g.H.Handler.asks g.K.Sink.writes) (WorksInPieces g.H.Handler.after_gives) l.mode
+      (with_sink (state_of l.initial.handler (g.S.Source.left l.initial.source) (g.S.Source.faults l.initial.source) (g.K.Sink.taken l.initial.sink) (g.K.Sink.faults l.initial.sink) (g.C.Clock.moments l.initial.clock)) l.initial.sink true)
+      (with_sink (state_of l.handler (g.S.Source.left l.source) (g.S.Source.faults l.source) (g.K.Sink.taken l.sink) (g.K.Sink.faults l.sink) (g.C.Clock.moments l.clock)) l.sink true)
       l.desk.window l.desk.total l.desk.answered;
 }
 

@@ -6,7 +6,7 @@ use Rattle.http_session.specs.declared.front.Found.{Found}
 use Rattle.http_session.specs.declared.front.Next.{Next}
 use Rattle.http_session.specs.declared.front.Next.TheVariants.{Whole}
 use Rattle.http_session.specs.Front.{asked_at, request_at, front_of}
-use Rattle.http_session.specs.Stream.{IsFront, whole}
+use Rattle.http_session.specs.Stream.{IsFront}
 use Rattle.http_session.proofs.StreamLemmas.{IsStream-ends, IsStream-shut, Reads-more}
 use Rattle.http_session.proofs.stream.stream_of.Goals as goal
 
