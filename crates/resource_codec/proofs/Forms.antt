@@ -1,5 +1,5 @@
 -- Lists, events and polls are well formed where what they hold is.
-use Rattle.std.proofs.Common.{◌≡◌, ℕ, ◌≤◌, Bool, true, false, codes, List, [], ◌∷◌, arith}
+use Rattle.std.proofs.Common.{◌≡◌, ℕ, ◌≤◌, Bool, true, false, codes, List, [], arith}
 use Rattle.std.specs.Prelude.{◌++◌, if◌then◌else◌, Some}
 use Rattle.std.specs.Fmt.{decimal}
 use Rattle.serde_json.specs.Data.{items_depth}

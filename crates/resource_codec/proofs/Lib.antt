@@ -7,3 +7,6 @@ pub mod Again
 pub mod Well
 pub mod Shown
 pub mod Forms
+pub mod Places
+pub mod Born
+pub mod Polled

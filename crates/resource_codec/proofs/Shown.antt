@@ -1,8 +1,8 @@
 -- What is shown of an object is well formed, and is read as the object's manifest.
-use Rattle.std.proofs.Common.{◌≡◌, ℕ, suc, ◌≤◌, Bool, true, codes, List, [], ◌∷◌, Option, Some, None, Ok, refl, sym, ap, subst, ◌∙◌, arith}
+use Rattle.std.proofs.Common.{◌≡◌, ℕ, ◌≤◌, true, codes, List, [], ◌∷◌, Option, Some, None, Ok, refl, sym, ap, subst, arith}
 use Rattle.serde_json.specs.Data.{Data, depth}
-use Rattle.json_tree.specs.Tree.{put_entry, names_of, names_rise, is_well}
-use Rattle.json_tree.specs.declared.json.Json.{Json, Null}
+use Rattle.json_tree.specs.Tree.{names_of, names_rise, is_well}
+use Rattle.json_tree.specs.declared.json.Json.{Json}
 use Rattle.json_tree.specs.declared.members.Table.{Table}
 use Rattle.json_tree.proofs.Laws.{data_of-Null}
 use Rattle.json_tree.proofs.Rising.{rises-put_entry}
@@ -22,7 +22,7 @@ use Rattle.std.specs.Fmt.{decimal}
 use Rattle.resource_codec.specs.Reading.{Member}
 use Rattle.resource_codec.specs.Shape.{shape}
 use Rattle.resource_codec.specs.Sound.{Fits, Sound}
-use Rattle.resource_codec.specs.Written.{Metadata, metadata_members, object_of, text_field, array_field, pod_members, target_members, spec_members, document_json, kind_of, Rises, IsWellRest, IsRegular}
+use Rattle.resource_codec.specs.Written.{object_of, text_field, array_field, pod_members, target_members, spec_members, kind_of, Rises, IsRegular}
 use Rattle.resource_codec.specs.Objects.{shown_moment, owner_fields, owner_members, owners_of, object_metadata, truth_word, condition_word, severity_word, condition_fields, condition_members, condition_json, published_members, published_json, observed_generation, status_fields, status_members, status_json, shown_labels, shown_annotations, with_routes, joined, routing_state, row_fields, row_members, row_json, other_namespace, table_fields, table_members, table_json, object_document, body_json, encoded, IsClientBody, IsWellBody, IsWellObject}
 use Rattle.resource_codec.proofs.Sounds.{FieldFits, both_true, sound_field, sound_fields, no_members, object_fits, text_fits, number_fits, truth_fits, array_field_fits, list_fits, more}
 use Rattle.resource_codec.proofs.Well.{no_array, metadata_sound, document_fits, pod_sound, target_sound, spec_sound}

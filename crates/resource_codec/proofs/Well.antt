@@ -1,7 +1,7 @@
 -- What is written is well formed, and how deep it is.
-use Rattle.std.proofs.Common.{◌≡◌, ℕ, suc, ◌≤◌, true, List, [], ◌∷◌, map, Some, refl, sym, ap, subst, ◌∙◌, arith}
+use Rattle.std.proofs.Common.{◌≡◌, ℕ, suc, ◌-◌, ◌≤◌, true, List, [], ◌∷◌, map, refl, sym, ap, subst, ◌∙◌, arith}
 use Rattle.serde_json.specs.Data.{Data, object, depth, members_depth}
-use Rattle.json_tree.specs.Tree.{table_data, values_are_well, names_of, names_rise}
+use Rattle.json_tree.specs.Tree.{is_well_formed, depth_of, table_data, values_are_well, names_of, names_rise}
 use Rattle.json_tree.specs.declared.members.Table.{Table}
 use Rattle.json_tree.proofs.Laws.{data_of-object, is_well_formed-Obj}
 use Rattle.resource_types.specs.declared.specification.PodSpec.{PodSpec}
@@ -10,8 +10,7 @@ use Rattle.resource_types.specs.declared.specification.Target.{Target}
 use Rattle.resource_types.specs.declared.manifests.Manifest.{Manifest}
 use Rattle.resource_types.specs.declared.manifests.ManifestSpec.{ManifestSpec}
 use Rattle.resource_types.specs.declared.manifests.ManifestSpec.TheVariants as spec
-use Rattle.resource_codec.specs.Reading.{Member}
-use Rattle.resource_codec.specs.Sound.{Fits, Sound}
+use Rattle.resource_codec.specs.Sound.{Fits, Sound, RestFits, RestOfSpecFits}
 use Rattle.resource_codec.specs.Written.{object_of, object_field, array_field, text_member, texts_field, pod_fields, pod_members, template_metadata_fields, template_metadata, template_fields, template_members, target_fields, target_members, target_json, spec_fields, spec_members, Metadata, metadata_fields, metadata_members, Document, document_fields, document_members, document_json, manifest_metadata, manifest_document, written, Rises, IsWellRest, IsWellTemplate, IsWellSpec, IsWell}
 use Rattle.resource_codec.proofs.Sounds.{FieldFits, both_true, and_true, sound_fields, no_members, object_fits, str_fits, text_fits, number_fits, truth_fits, object_field_fits, list_fits, more}
 
@@ -39,23 +38,40 @@ texts_fit t rising = object_field_fits 0 (map text_member t.entries) (record { r
 
 -- ---- a template
 
-rest_sound : (s : PodSpec) → IsWellRest s → Sound 31 s.rest.entries
-rest_sound s w =
+-- the rest of a pod spec is well formed, and at most one level deeper than k
+pub record RestAtMost (k : ℕ) (s : PodSpec) : Type 0 where
+  pub well : is_well_formed (object_of s.rest.entries) ≡ true
+  pub deep : depth_of (object_of s.rest.entries) ≤ suc k
+
+-- the same of a spec's template, if it has one
+abbrev pub SpecAtMost : ℕ → ManifestSpec → Type 0
+SpecAtMost k (spec.Service template traffic) = RestAtMost k template.spec
+SpecAtMost k (spec.Configuration template) = RestAtMost k template.spec
+SpecAtMost k (spec.Route traffic) = Unit {0}
+
+rest_sound : (k : ℕ) (s : PodSpec) → RestAtMost k s → Sound k s.rest.entries
+rest_sound k s w =
     let parts = and_true (names_rise (names_of s.rest.entries)) (values_are_well (table_data s.rest.entries)) (sym (is_well_formed-Obj s.rest) ∙ w.well) in
-    let deep : depth (object (table_data s.rest.entries)) ≤ 32 = subst (λ (d : Data). depth d ≤ 32) (data_of-object s.rest) w.deep in
+    let deep : depth (object (table_data s.rest.entries)) ≤ suc k = subst (λ (d : Data). depth d ≤ suc k) (data_of-object s.rest) w.deep in
     record { rising = parts.0; well = parts.1; deep = omega (arith, deep) }
 
-pub pod_sound : (s : PodSpec) → IsWellRest s → Sound 31 (pod_members s)
+pod_sound_at : (k : ℕ) (s : PodSpec) → RestAtMost k s → Sound k (pod_members s)
 unfolding pod_members
-pod_sound s w = sound_fields 31 (pod_fields s) s.rest.entries (number_fits 31 s.concurrency, (number_fits 31 s.timeout, tt)) (rest_sound s w)
+pod_sound_at k s w = sound_fields k (pod_fields s) s.rest.entries (number_fits k s.concurrency, (number_fits k s.timeout, tt)) (rest_sound k s w)
+
+at_31 : (s : PodSpec) → IsWellRest s → RestAtMost 31 s
+at_31 s w = record { well = w.well; deep = w.deep }
+
+pub pod_sound : (s : PodSpec) → IsWellRest s → Sound 31 (pod_members s)
+pod_sound s w = pod_sound_at 31 s (at_31 s w)
 
 template_metadata_sound : (t : Template) → IsWellTemplate t → Sound 1 (template_metadata t)
 unfolding template_metadata
 template_metadata_sound t w = sound_fields 1 (template_metadata_fields t) [] (texts_fit t.annotations w.annotations, (texts_fit t.labels w.labels, (text_fits 1 t.name, tt))) (no_members 1)
 
-template_sound : (t : Template) → IsWellTemplate t → Sound 32 (template_members t)
+template_sound : (k : ℕ) (t : Template) → 1 ≤ k → IsWellTemplate t → RestAtMost k t.spec → Sound (suc k) (template_members t)
 unfolding template_members
-template_sound t w = sound_fields 32 (template_fields t) [] (more 2 32 (object_field (template_metadata t)) (omega arith) (object_field_fits 1 (template_metadata t) (template_metadata_sound t w)), (object_fits 31 (pod_members t.spec) (pod_sound t.spec w.rest), tt)) (no_members 32)
+template_sound k t le w r = sound_fields (suc k) (template_fields t) [] (more 2 (suc k) (object_field (template_metadata t)) (omega (arith, le)) (object_field_fits 1 (template_metadata t) (template_metadata_sound t w)), (object_fits k (pod_members t.spec) (pod_sound_at k t.spec r), tt)) (no_members (suc k))
 
 -- ---- targets
 
@@ -71,11 +87,19 @@ traffic_fits n ts le = more 2 n (array_field (map target_json ts)) le (list_fits
 
 -- ---- the manifest
 
-pub spec_sound : (s : ManifestSpec) → IsWellSpec s → Sound 33 (spec_members s)
+spec_sound_at : (k : ℕ) (s : ManifestSpec) → 1 ≤ k → IsWellSpec s → SpecAtMost k s → Sound (suc (suc k)) (spec_members s)
 unfolding spec_members
-spec_sound (spec.Service template traffic) w = sound_fields 33 (spec_fields (spec.Service template traffic)) [] (object_fits 32 (template_members template) (template_sound template w), (traffic_fits 33 traffic (omega arith), tt)) (no_members 33)
-spec_sound (spec.Configuration template) w = sound_fields 33 (spec_fields (spec.Configuration template)) [] (object_fits 32 (template_members template) (template_sound template w), tt) (no_members 33)
-spec_sound (spec.Route traffic) w = sound_fields 33 (spec_fields (spec.Route traffic)) [] (traffic_fits 33 traffic (omega arith), tt) (no_members 33)
+spec_sound_at k (spec.Service template traffic) le w r = sound_fields (suc (suc k)) (spec_fields (spec.Service template traffic)) [] (object_fits (suc k) (template_members template) (template_sound k template le w r), (traffic_fits (suc (suc k)) traffic (omega (arith, le)), tt)) (no_members (suc (suc k)))
+spec_sound_at k (spec.Configuration template) le w r = sound_fields (suc (suc k)) (spec_fields (spec.Configuration template)) [] (object_fits (suc k) (template_members template) (template_sound k template le w r), tt) (no_members (suc (suc k)))
+spec_sound_at k (spec.Route traffic) le w r = sound_fields (suc (suc k)) (spec_fields (spec.Route traffic)) [] (traffic_fits (suc (suc k)) traffic (omega (arith, le)), tt) (no_members (suc (suc k)))
+
+spec_at_31 : (s : ManifestSpec) → IsWellSpec s → SpecAtMost 31 s
+spec_at_31 (spec.Service template traffic) w = at_31 template.spec w.rest
+spec_at_31 (spec.Configuration template) w = at_31 template.spec w.rest
+spec_at_31 (spec.Route traffic) w = tt
+
+pub spec_sound : (s : ManifestSpec) → IsWellSpec s → Sound 33 (spec_members s)
+spec_sound s w = spec_sound_at 31 s (omega arith) w (spec_at_31 s w)
 
 -- ---- a document
 
@@ -103,6 +127,22 @@ document_fits n d le metadata spec status = object_fits n (document_members d) (
   (text_fits n d.kind, (more 3 n (object_field d.metadata) le (object_field_fits 2 d.metadata metadata), (spec, (status, tt)))),
 ) (no_members n))
 
+written_fits_at : (k : ℕ) (m : Manifest) → 1 ≤ k → IsWell m → SpecAtMost k m.spec → Fits (suc (suc (suc (suc k)))) (written m)
+written_fits_at k m le w r =
+    document_fits (suc (suc (suc k))) (manifest_document m) (omega (arith, le)) (metadata_sound (manifest_metadata m) w.labels w.annotations (no_array 2))
+    (object_fits (suc (suc k)) (spec_members m.spec) (spec_sound_at k m.spec le w.spec r)) tt
+
 pub written_fits : (m : Manifest) → IsWell m → Fits 35 (written m)
-written_fits m w =
-    document_fits 34 (manifest_document m) (omega arith) (metadata_sound (manifest_metadata m) w.labels w.annotations (no_array 2)) (object_fits 33 (spec_members m.spec) (spec_sound m.spec w.spec)) tt
+written_fits m w = written_fits_at 31 m (omega arith) w (spec_at_31 m.spec w.spec)
+
+rest_within : (n : ℕ) (s : PodSpec) → 5 ≤ n → RestFits 3 n s → RestAtMost (n - 4) s
+rest_within n s le r = record { well = r.well; deep = omega (arith, le, r.deep) }
+
+spec_within : (n : ℕ) (s : ManifestSpec) → 5 ≤ n → RestOfSpecFits 3 n s → SpecAtMost (n - 4) s
+spec_within n (spec.Service template traffic) le r = rest_within n template.spec le r
+spec_within n (spec.Configuration template) le r = rest_within n template.spec le r
+spec_within n (spec.Route traffic) le r = tt
+
+-- what is written is three levels deeper than the rest of a pod spec, and at least five are left for all else
+pub written_deep : (n : ℕ) (m : Manifest) → 5 ≤ n → IsWell m → RestOfSpecFits 3 n m.spec → depth_of (written m) ≤ n
+written_deep n m le w r = omega (arith, le, (written_fits_at (n - 4) m (omega (arith, le)) w (spec_within n m.spec le r)).deep)

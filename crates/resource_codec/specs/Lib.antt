@@ -5,3 +5,4 @@ pub mod Written
 pub mod Sound
 pub mod Objects
 pub mod Lists
+pub mod Views

@@ -1,16 +1,14 @@
 -- Objects as JSON, by their kind.
-use Rattle.std.specs.Prelude.{◌≡◌, ◌++◌, ℕ, Bool, true, false, List, [], ◌∷◌, codes, Option, Some, None, map, min, unwrap_or, if◌then◌else◌, ◌==◌}
+use Rattle.std.specs.Prelude.{◌++◌, ℕ, Bool, true, false, List, [], ◌∷◌, codes, Option, Some, None, map, min, unwrap_or, if◌then◌else◌, ◌==◌}
 use Rattle.std.specs.List.{flat_map}
 use Rattle.std.specs.Str.{bytes_eq}
 use Rattle.std.specs.Fmt.{decimal}
-use Rattle.json_tree.specs.declared.json.Json.{Json, Null, Arr}
+use Rattle.json_tree.specs.declared.json.Json.{Json, Null}
 use Rattle.json_tree.specs.declared.members.Table.{Table}
 use Rattle.json_tree.specs.Tree.{put_entry}
 use Rattle.serve_names.specs.Moments.{last_moment, moment_bytes}
 use Rattle.serve_names.specs.Uids.{uid_bytes}
 use Rattle.resource_types.specs.Manifests.{api_version, kind_word}
-use Rattle.resource_types.specs.declared.names.Kind.{Kind}
-use Rattle.resource_types.specs.declared.names.Kind.TheVariants as kind
 use Rattle.resource_types.specs.declared.metadata.Owner.{Owner}
 use Rattle.resource_types.specs.declared.conditions.CondName.{CondName}
 use Rattle.resource_types.specs.declared.conditions.CondName.TheVariants as name

@@ -1,7 +1,7 @@
 //! Reading a manifest.
 ghost use Rattle.std.specs.Prelude.{◌≡◌, ℕ, ◌≤◌, ◌-◌, IsTrue, IfOk};
 ghost use Rattle.json_tree.specs.Tree.{is_well_formed, depth_of};
-ghost use Rattle.resource_codec.specs.Written.{object_of};
+ghost use Rattle.resource_codec.specs.Written.{object_of, kind_of};
 ghost use Rattle.resource_codec.specs.Sound.{Fits, Sound, RestOfSpecFits, TemplateRises, SpecRises, ManifestRises};
 ghost use Rattle.resource_codec.specs.Reading.{Gives};
 ghost use Rattle.resource_codec.specs.Shape.{Decodes, template_in, target_in, targets_in, traffic_in, spec_in, shape};
@@ -23,6 +23,7 @@ use std::alloc::Global;
 #[tactic(auto, unfolding(crate::specs::Shape::shape))]
 pub fn decode(alloc: Global, kind: ClientKind, json: &Json) -> Result<Manifest, DecodeError>
     ensures shape { Decodes result (shape kind json.now) }
+    ensures kind { IfOk result (λ m. kind_of m.spec ≡ kind) }
     // A well-formed value has a well-formed rest, which is three levels less deep.
     ensures rest { IsTrue (is_well_formed json.now)
         → IfOk result (λ m. RestOfSpecFits 3 (depth_of json.now) m.spec) }
@@ -55,6 +56,7 @@ pub fn decode(alloc: Global, kind: ClientKind, json: &Json) -> Result<Manifest, 
 #[tactic(auto, unfolding(crate::specs::Shape::spec_in))]
 fn spec_in(alloc: Global, kind: ClientKind, members: &Members) -> Result<ManifestSpec, DecodeError>
     ensures value { Gives (λ s. s) result (spec_in kind members.now.entries) }
+    ensures kind { IfOk result (λ s. kind_of s ≡ kind) }
     ensures rest { (n : ℕ) → Sound n members.now.entries
         → IfOk result (λ s. RestOfSpecFits 1 n s) }
     ensures rise { (n : ℕ) → Sound n members.now.entries → IfOk result SpecRises }

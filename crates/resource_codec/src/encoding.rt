@@ -1,9 +1,10 @@
 //! Writing manifests.
-ghost use Rattle.std.specs.Prelude.{◌≡◌, ◌↔◌, ◌≤◌, IsTrue, IfOk, Ok};
+ghost use Rattle.std.specs.Prelude.{◌≡◌, ℕ, ◌↔◌, ◌≤◌, IsTrue, IfOk, Ok};
 ghost use Rattle.serde_json.specs.Written.{compact_text};
 ghost use Rattle.json_tree.specs.Tree.{is_well_formed, depth_of, data_of};
 ghost use Rattle.resource_codec.specs.Written.{metadata_members, manifest_metadata, spec_members, written, kind_of, IsRegular, IsWell};
 ghost use Rattle.resource_codec.specs.Shape.{shape};
+ghost use Rattle.resource_codec.specs.Sound.{RestOfSpecFits};
 
 use crate::puts::{put_text, put_texts};
 use crate::writing::{configuration_spec, document, route_spec, service_spec};
@@ -22,6 +23,9 @@ pub fn encode_manifest(alloc: Global, manifest: &Manifest) -> Result<Json, Alloc
         → IfOk result (λ j. shape (kind_of manifest.now.spec) j ≡ Ok manifest.now) }
     ensures well { IsWell manifest.now
         → IfOk result (λ j. IsTrue (is_well_formed j) × (depth_of j ≤ 35)) }
+    // It is three levels deeper than the rest of a pod spec, and at most 5 deep without one.
+    ensures deep { (n : ℕ) → 5 ≤ n → IsWell manifest.now → RestOfSpecFits 3 n manifest.now.spec
+        → IfOk result (λ j. depth_of j ≤ n) }
 {
     let metadata = manifest_metadata(alloc, manifest)?;
     let spec = spec_members(alloc, &manifest.spec)?;

@@ -1,8 +1,8 @@
-use Rattle.std.proofs.Common.{◌≡◌, ◌≤◌, ◌-◌, ◌+◌, ℕ, suc, codes, List, ap, sym, subst, ◌∙◌, arith}
+use Rattle.std.proofs.Common.{◌-◌, suc, codes, List, ap, sym, subst, arith}
 use Rattle.resource_codec.specs.declared.fields.Field.TheVariants as field
 use Rattle.resource_codec.specs.Written.{object_of}
 use Rattle.resource_codec.specs.Reading.{Member, entries_of}
-use Rattle.resource_codec.specs.Sound.{Fits, Sound}
+use Rattle.resource_codec.specs.Sound.{Fits}
 use Rattle.resource_codec.proofs.Inner.{under_inside, rest_inside, maybe_inside, texts_rise}
 use Rattle.resource_codec.proofs.decoding.template_in.Goals as goal
 

@@ -1,5 +1,4 @@
-use Rattle.std.proofs.Common.{◌≡◌, ◌≤◌, ◌∙◌, ap, sym, subst, true, List, ℕ, None, Result, Ok}
-use Rattle.std.specs.Prelude.{IfOk}
+use Rattle.std.proofs.Common.{◌≡◌, ◌≤◌, ◌∙◌, ap, sym, subst, true, List, ℕ, None, Ok}
 use Rattle.std.proofs.lemmas.Result.{IfOk-weaker}
 use Rattle.json_tree.specs.Tree.{is_well_formed, depth_of}
 use Rattle.json_tree.specs.declared.json.Json.{Json}
@@ -8,7 +7,7 @@ use Rattle.resource_codec.specs.Reading.{Member}
 use Rattle.resource_codec.specs.Shape.{shape}
 use Rattle.resource_codec.specs.Written.{metadata_members, spec_members, document_json, manifest_metadata, kind_of, written}
 use Rattle.resource_codec.proofs.Again.{again}
-use Rattle.resource_codec.proofs.Well.{written_fits}
+use Rattle.resource_codec.proofs.Well.{written_fits, written_deep}
 use Rattle.resource_codec.proofs.encoding.encode_manifest.Goals as goal
 
 -- a document of a manifest's parts is its written form
@@ -42,4 +41,11 @@ returns-clause-well c w =
     let fits = written_fits m w in
     IfOk-weaker c.document.result (λ (j : Json). j ≡ written m) (λ (j : Json). (is_well_formed j ≡ true) × (depth_of j ≤ 35))
     (λ j e. subst (λ (x : Json). (is_well_formed x ≡ true) × (depth_of x ≤ 35)) (sym e) (fits.well, fits.deep))
+    (returns-clause-written c)
+
+pub returns-clause-deep : goal.returns-clause-deep
+returns-clause-deep c n le w r =
+    let m = c.args.manifest.now in
+    IfOk-weaker c.document.result (λ (j : Json). j ≡ written m) (λ (j : Json). depth_of j ≤ n)
+    (λ j e. subst (λ (x : Json). depth_of x ≤ n) (sym e) (written_deep n m le w r))
     (returns-clause-written c)

@@ -1,4 +1,4 @@
-use Rattle.std.proofs.Common.{◌≡◌, refl}
+use Rattle.std.proofs.Common.{refl}
 use Rattle.resource_codec.specs.Written.{metadata_members, put_field, text_field, number_field, array_field}
 use Rattle.resource_codec.proofs.encoding.manifest_metadata.Goals as goal
 

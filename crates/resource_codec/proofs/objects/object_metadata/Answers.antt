@@ -1,4 +1,4 @@
-use Rattle.std.proofs.Common.{◌≡◌, refl}
+use Rattle.std.proofs.Common.{refl}
 use Rattle.resource_codec.specs.Written.{metadata_members}
 use Rattle.resource_codec.proofs.objects.object_metadata.Goals as goal
 

@@ -1,4 +1,4 @@
-use Rattle.std.proofs.Common.{◌≡◌, refl}
+use Rattle.std.proofs.Common.{refl}
 use Rattle.resource_codec.specs.Objects.{owner_members}
 use Rattle.resource_codec.proofs.objects.owner_members.Goals as goal
 

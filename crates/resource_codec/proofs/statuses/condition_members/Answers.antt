@@ -1,4 +1,4 @@
-use Rattle.std.proofs.Common.{◌≡◌, refl}
+use Rattle.std.proofs.Common.{refl}
 use Rattle.resource_codec.specs.Objects.{condition_members}
 use Rattle.resource_codec.proofs.statuses.condition_members.Goals as goal
 

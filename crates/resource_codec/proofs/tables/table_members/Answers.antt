@@ -1,4 +1,4 @@
-use Rattle.std.proofs.Common.{◌≡◌, refl}
+use Rattle.std.proofs.Common.{refl}
 use Rattle.resource_codec.specs.Objects.{table_members}
 use Rattle.resource_codec.proofs.tables.table_members.Goals as goal
 

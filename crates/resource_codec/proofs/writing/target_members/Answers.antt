@@ -1,4 +1,4 @@
-use Rattle.std.proofs.Common.{◌≡◌, refl}
+use Rattle.std.proofs.Common.{refl}
 use Rattle.resource_codec.specs.Written.{target_members}
 use Rattle.resource_codec.proofs.writing.target_members.Goals as goal
 
