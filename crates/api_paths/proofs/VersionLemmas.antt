@@ -1,5 +1,5 @@
 -- Versions in a good query, and the numbers that they write.
-use Rattle.std.proofs.Common.{◌≡◌, ◌∙◌, ◌+◌, ◌-◌, ◌*◌, ◌^◌, ◌<◌, ◌≤◌, ◌&&◌, ◌||◌, not, cond, ℕ, refl, sym, ap, arith, List, [], ◌∷◌, length, Bool, true, false, nat_le, take, get_or, Option, Some, find, codes}
+use Rattle.std.proofs.Common.{◌≡◌, ◌+◌, ◌-◌, ◌*◌, ◌^◌, ◌<◌, ◌≤◌, ◌&&◌, ◌||◌, not, cond, ℕ, refl, arith, List, [], ◌∷◌, length, Bool, true, false, nat_le, take, get_or, Some, find, codes}
 use Rattle.std.specs.List.{list_all}
 use Rattle.std.specs.Str.Parse.{digits_value, AllDigits}
 use Rattle.std.specs.Char.{digit_value}
@@ -9,7 +9,7 @@ use Rattle.std.proofs.lemmas.Str.{digit_value_digit}
 use Rattle.std.proofs.Math.Nat.{pow-le-pow_right}
 use Rattle.std.proofs.lemmas.Bool.Decides.{nat_tests}
 use Rattle.serve_names.specs.Counts.{is_digit}
-use Rattle.api_paths.specs.Queries.{parts_of, is_named, value_of, is_version, is_good_version, is_good_list}
+use Rattle.api_paths.specs.Queries.{parts_of, is_named, value_of, is_version, is_good_list}
 
 left : (a b : Bool) → (a && b) ≡ true → a ≡ true
 left true b e = refl

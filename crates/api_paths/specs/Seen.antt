@@ -1,5 +1,5 @@
 -- Calls and resources as the code has them, with their texts behind references.
-use Rattle.std.specs.Prelude.{ℕ, List, [], Option, option_map, Result, Ok, Err}
+use Rattle.std.specs.Prelude.{ℕ, List, Option, option_map, Result, Ok, Err}
 use Rattle.std.specs.Borrow.{Bor}
 use Rattle.api_paths.specs.declared.calls.Call.{Call}
 use Rattle.api_paths.specs.declared.calls.Call.TheVariants as call

@@ -1,5 +1,5 @@
 -- The test of a changed template, and the fact that it tests.
-use Rattle.std.proofs.Common.{◌≡◌, ◌≢◌, ◌↔◌, Bool, true, false, ◌&&◌, not, List, [], ◌∷◌, Option, Some, None, Result, IsErr, IsSomeAnd, is_err, refl, sym, ap, ◌∙◌}
+use Rattle.std.proofs.Common.{◌≡◌, ◌≢◌, ◌↔◌, Bool, true, false, ◌&&◌, not, List, [], ◌∷◌, Option, Some, None, Result, IsErr, IsSomeAnd, is_err, refl, sym, ◌∙◌}
 use Rattle.std.proofs.lemmas.Slice.Eq.{bytes_eq-Decides}
 use Rattle.json_tree.specs.Equal.{is_equal}
 use Rattle.json_tree.specs.EqualLaws.{is_equal-exact, is_equal-of, tells-equal}

@@ -1,5 +1,5 @@
 -- Defaults fill each target once, and a second time they change nothing.
-use Rattle.std.proofs.Common.{◌≡◌, ℕ, zero, suc, ◌+◌, ◌<◌, List, [], ◌∷◌, ◌++◌, length, take, drop, map, slice_get, slice_set, Option, Some, None, refl, sym, ap, ap₂, subst, ◌∙◌, arith}
+use Rattle.std.proofs.Common.{◌≡◌, ℕ, zero, suc, ◌+◌, ◌<◌, List, [], ◌∷◌, ◌++◌, length, take, drop, map, slice_get, slice_set, Some, refl, ap, subst, arith}
 use Rattle.resource_types.specs.declared.specification.Target.{Target}
 use Rattle.resource_types.specs.declared.manifests.Manifest.{Manifest}
 use Rattle.resource_types.specs.declared.manifests.ManifestSpec.{ManifestSpec}

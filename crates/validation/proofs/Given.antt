@@ -1,11 +1,11 @@
 -- Defaults leave what is given.
-use Rattle.std.proofs.Common.{◌≡◌, List, [], ◌∷◌, map, Option, Some, None, refl}
+use Rattle.std.proofs.Common.{List, [], ◌∷◌, map, Option, Some, None, refl}
 use Rattle.resource_types.specs.declared.specification.Target.{Target}
 use Rattle.resource_types.specs.declared.specification.Template.{Template}
 use Rattle.resource_types.specs.declared.manifests.Manifest.{Manifest}
 use Rattle.resource_types.specs.declared.manifests.ManifestSpec.{ManifestSpec}
 use Rattle.resource_types.specs.declared.manifests.ManifestSpec.TheVariants as spec
-use Rattle.validation.specs.Defaults.{Stays, filled, default_target, default_template, service_targets, default_spec, defaults_of, KeepsTarget, KeepsEach, KeepsTemplate, KeepsSpec, KeepsGiven}
+use Rattle.validation.specs.Defaults.{Stays, filled, default_target, default_template, default_spec, defaults_of, KeepsTarget, KeepsEach, KeepsTemplate, KeepsSpec, KeepsGiven}
 
 stays : {A : Type 0} (given : Option A) (default : A) → Stays given (filled given default)
 stays None d = tt

@@ -1,5 +1,5 @@
 -- Defaults of a manifest, and what it means that they change nothing that is given.
-use Rattle.std.specs.Prelude.{◌≡◌, ◌≢◌, ⊤, ℕ, Bool, true, false, List, [], ◌∷◌, Option, Some, map, unwrap_or, IfSome}
+use Rattle.std.specs.Prelude.{◌≡◌, ◌≢◌, ⊤, Bool, true, false, List, [], ◌∷◌, Option, Some, map, unwrap_or, IfSome}
 use Rattle.resource_types.specs.declared.specification.PodSpec.{PodSpec}
 use Rattle.resource_types.specs.declared.specification.Template.{Template}
 use Rattle.resource_types.specs.declared.specification.Target.{Target}

@@ -1,5 +1,5 @@
 use Rattle.std.proofs.Common.{◌≡◌, ◌∙◌, ℕ, List, Some, option_copied, find, codes, sym, ap}
-use Rattle.api_paths.specs.Queries.{parts_of, is_named, is_version}
+use Rattle.api_paths.specs.Queries.{parts_of, is_named}
 use Rattle.api_paths.proofs.VersionLemmas.{version_is_good}
 use Rattle.api_paths.proofs.queries.version_after.Goals as goal
 

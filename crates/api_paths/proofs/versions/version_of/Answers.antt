@@ -1,5 +1,5 @@
-use Rattle.std.proofs.Common.{◌≡◌, ◌+◌, ◌-◌, ◌*◌, ◌<◌, ◌≤◌, length, arith, sym}
-use Rattle.api_paths.proofs.VersionLemmas.{version_step, few_digits}
+use Rattle.std.proofs.Common.{arith, sym}
+use Rattle.api_paths.proofs.VersionLemmas.{version_step}
 use Rattle.api_paths.proofs.versions.version_of.Goals as goal
 
 pub overflow_mul-number : goal.overflow_mul-number

@@ -1,4 +1,4 @@
-use Rattle.std.proofs.Common.{◌≡◌, ◌∙◌, sym}
+use Rattle.std.proofs.Common.{◌∙◌, sym}
 use Rattle.std.proofs.lemmas.Result.{err_from_is_err_and}
 use Rattle.validation.proofs.Steps.{then_ok, then_err, target_step, targets_done}
 use Rattle.validation.proofs.targets.check_each_target.Goals as goal
