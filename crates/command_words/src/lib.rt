@@ -1,0 +1,12 @@
+//! The words of the command line.
+//!
+//! The first word names the command, and the words behind it are read by clap as those of one simple command.
+#![tactic(auto)]
+
+mod command;
+mod options;
+
+pub use command::{Command, WordsError, read_command};
+
+#[cfg(test)]
+mod tests;
