@@ -1,0 +1,4 @@
+pub mod Bodies
+pub mod Refusals
+pub mod Intake
+pub mod Seen

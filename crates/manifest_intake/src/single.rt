@@ -1,0 +1,70 @@
+//! A manifest that is checked by itself.
+ghost use Rattle.std.specs.Prelude.{◌≡◌, ◌≤◌, IsTrue, IfOk};
+ghost use Rattle.json_tree.specs.Tree.{is_well_formed, depth_of};
+ghost use Rattle.resource_codec.specs.Written.{IsWell};
+ghost use Rattle.manifest_intake.specs.Intake as spec;
+
+use crate::body::read_body;
+use crate::intake::accept;
+use crate::matching::Purpose;
+use crate::refusal::{IntakeError, ManifestRefusal, Part};
+use json_tree::{Json, Members, Text};
+use resource_codec::Field;
+use resource_types::{ClientKind, Manifest};
+use std::alloc::Global;
+
+fn kind_named(word: &Text) -> Option<ClientKind>
+    ensures { result ≡ spec.kind_named word.now }
+{
+    if word.is("Service") {
+        Some(ClientKind::Service)
+    } else if word.is("Configuration") {
+        Some(ClientKind::Configuration)
+    } else if word.is("Route") {
+        Some(ClientKind::Route)
+    } else {
+        None
+    }
+}
+
+/// The kind that a value says.
+#[tactic(auto, unfolding(crate::specs::Intake::kind_word_in))]
+fn kind_in(json: &Json) -> Result<ClientKind, ManifestRefusal>
+    ensures { result ≡ spec.kind_of_word (spec.kind_word_in json.now) }
+{
+    let members = match json {
+        Json::Obj(members) => members,
+        _ => return Err(ManifestRefusal::WrongShape(Field::Body)),
+    };
+    match members.get("apiVersion") {
+        Some(Json::Str(_)) => {}
+        _ => return Err(ManifestRefusal::WrongShape(Field::ApiVersion)),
+    }
+    match members.get("kind") {
+        Some(Json::Str(word)) => kind_named(word).ok_or(ManifestRefusal::Mismatch(Part::Kind)),
+        _ => Err(ManifestRefusal::WrongShape(Field::Kind)),
+    }
+}
+
+#[tactic(auto, unfolding(crate::specs::Intake::checked))]
+fn check_value(alloc: Global, json: &Json) -> Result<Manifest, IntakeError>
+    ensures value { spec.Answers result (spec.checked json.now) }
+    ensures well { IsTrue (is_well_formed json.now) → depth_of json.now ≤ 32 → IfOk result IsWell }
+{
+    let kind = kind_in(json)?;
+    accept(alloc, Purpose::Check, kind, json)
+}
+
+/// The manifest that the bytes of a body give by themselves, with its defaults. Its kind is the one that it says; any
+/// namespace that is a label fits. It is refused for the first reason that holds, as a manifest that is to make an
+/// object is.
+pub fn check_body(alloc: Global, bytes: &[u8]) -> Result<Manifest, IntakeError>
+    ensures checks { spec.Checks bytes.now result }
+    // The manifest can be written.
+    ensures well { IfOk result IsWell }
+{
+    match read_body(alloc, bytes)? {
+        Some(json) => check_value(alloc, &json),
+        None => Err(IntakeError::Refused(ManifestRefusal::UnreadableBody)),
+    }
+}
