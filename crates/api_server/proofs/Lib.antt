@@ -1,2 +1,5 @@
-pub mod Fronts
-pub mod Made
+pub mod Kept
+pub mod Methods
+pub mod Unique
+pub mod Patches
+pub mod Handles

@@ -1,96 +1,117 @@
 -- What a request gets, and what it changes.
-use Rattle.std.specs.Prelude.{◌≡◌, ◌≢◌, ◌⊎◌, ℕ, ◌+◌, ◌≤◌, max, List, [], ◌∷◌, ◌++◌, length, Option, Some, None, option_to_list, IsTrue}
-use Rattle.json_tree.specs.Answers.{IsReading, IsRefusedFor}
-use Rattle.json_tree.specs.Tree.{data_of, is_well_formed, depth_of}
+use Rattle.std.specs.Prelude.{◌≡◌, false, ℕ, max, List, [], ◌∷◌, ◌++◌, length, Option, Some, None, Result, Ok, Err}
 use Rattle.json_tree.specs.declared.json.Json.{Json}
-use Rattle.json_tree.specs.declared.read.JsonError.{JsonError}
-use Rattle.json_tree.specs.declared.read.JsonError.TheVariants.{Memory}
 use Rattle.http_session.specs.declared.message.Request.{Request}
 use Rattle.http_session.specs.declared.message.Reply.{Reply}
-use Rattle.api_server.specs.declared.journal.Entry.{Entry}
-use Rattle.api_server.specs.declared.journal.Mark.{Mark}
-use Rattle.api_server.specs.Paths.{Call, create, read, unknown, call_of}
-use Rattle.api_server.specs.Manifests.{Plain, plain_of}
-use Rattle.api_server.specs.Journal.{standing, mark_at}
-use Rattle.api_server.specs.Replies.{shown, no_such_path, unreadable_body, already_exists, not_found}
+use Rattle.version_store.specs.declared.write.Write.{Write}
+use Rattle.version_store.specs.Apply.{entries_after}
+use Rattle.resource_types.specs.declared.names.Kind.{Kind}
+use Rattle.resource_types.specs.declared.names.Key.{Key}
+use Rattle.resource_types.specs.declared.names.Name.{Name}
+use Rattle.resource_types.specs.declared.names.Actor.{Actor}
+use Rattle.resource_types.specs.declared.names.Actor.TheVariants.{Client}
+use Rattle.resource_types.specs.declared.objects.Object.{Object}
+use Rattle.resource_types.specs.contracts.names.KeyOrd.TheImpl as key_order
+use Rattle.resource_types.specs.contracts.item.ObjectItem.TheImpl as object_item
+use Rattle.resource_types.specs.Lookups.{Log}
+use Rattle.api_paths.specs.declared.calls.PathError.{PathError}
+use Rattle.api_paths.specs.Paths as paths
+use Rattle.api_paths.specs.Route.{call_of}
+use Rattle.manifest_intake.specs.Bodies.{IsBody}
+use Rattle.api_server.specs.declared.mark.Mark.{Mark}
+use Rattle.api_server.specs.declared.outcome.Outcome.{Outcome}
+use Rattle.api_server.specs.declared.refusal.Refusal.{Refusal}
+use Rattle.api_server.specs.declared.refusal.Refusal.TheVariants.{NoSuchPath}
+use Rattle.api_server.specs.Replies.{refused, path_refused}
+use Rattle.api_server.specs.Objects.{kind_of}
+use Rattle.api_server.specs.Calls.{ClientPlan, Answer, only, standing, IsPatched, listing, polling, reading, creating, replacing, patching, removing}
 
--- a world: what was made, the moment, and a mark for each request that was answered
+-- a world: all that was written, the moment, and a mark for each request that was answered
 pub record State : Type 0 where
-  pub journal : List Entry
+  pub journal : Log
   pub moment : ℕ
   pub marks : List Mark
 
--- the bytes are no JSON that can be read
-abbrev pub IsUnreadable : List ℕ → Type 0
-IsUnreadable body = (error : JsonError) × (error ≢ Memory) × IsRefusedFor body error
+-- ---- the reply
 
--- the bytes are the text of a value that can be read
-abbrev pub IsReadable : List ℕ → Json → Type 0
-IsReadable body json = IsReading body (data_of json) × IsTrue (is_well_formed json) × (depth_of json ≤ 32)
+-- a refusal is a reply, and writes nothing
+abbrev pub settled : Answer → Outcome
+settled (Ok outcome) = outcome
+settled (Err refusal) = only (refused refusal)
 
--- the entry is what a plain manifest makes in a namespace at a moment
-pub record IsMadeOf (space : List ℕ) (plain : Plain) (moment : ℕ) (entry : Entry) : Type 0 where
-  pub in_space : entry.space ≡ space
-  pub named : entry.name ≡ plain.name
-  pub runs : entry.image ≡ plain.image
-  pub at_moment : entry.created ≡ moment
+-- a call whose body is read
+abbrev pub AnswersBody : List ℕ → (Option Json → Answer) → Outcome → Type 0
+AnswersBody bytes answer outcome = (body : Option Json) × IsBody bytes body × (outcome ≡ settled (answer body))
 
--- the reply shows what the manifest makes, which becomes the next entry
-abbrev pub Makes : List Entry → ℕ → List ℕ → Plain → Reply → Option Entry → Type 0
-Makes journal moment space plain reply made =
-    (entry : Entry) × IsMadeOf space plain moment entry × (reply ≡ shown 201 (length journal + 1) entry) × (made ≡ Some entry)
+-- a patch: its body is read, and merged into the document of what stands
+abbrev pub AnswersPatch : List ℕ → Option Object → (Option Json → Json → Answer) → Outcome → Type 0
+AnswersPatch bytes old answer outcome =
+    (body : Option Json) × (patched : Json) × IsBody bytes body × IsPatched old body patched × (outcome ≡ settled (answer body patched))
 
--- the answer to a POST of a plain manifest, by what stands under its name
-abbrev pub AnswersPlain : List Entry → ℕ → List ℕ → Plain → Option (ℕ × Entry) → Reply → Option Entry → Type 0
-AnswersPlain journal moment space plain None reply made = Makes journal moment space plain reply made
-AnswersPlain journal moment space plain (Some found) reply made = (reply ≡ already_exists plain.name) × (made ≡ None)
+-- what a call comes to; one that isn't built yet is none of a path that exists
+abbrev pub AnswersCall : Log → ℕ → List ℕ → paths.Call → Outcome → Type 0
+AnswersCall journal moment bytes (paths.list kind space) outcome = outcome ≡ settled (listing journal kind space)
+AnswersCall journal moment bytes (paths.poll kind space after) outcome = outcome ≡ settled (polling journal kind space after)
+AnswersCall journal moment bytes (paths.read kind space name) outcome = outcome ≡ settled (reading journal kind space name)
+AnswersCall journal moment bytes (paths.create kind space) outcome = AnswersBody bytes (creating journal moment kind space) outcome
+AnswersCall journal moment bytes (paths.replace kind space name) outcome = AnswersBody bytes (replacing journal moment kind space name) outcome
+AnswersCall journal moment bytes (paths.patch kind space name) outcome =
+    AnswersPatch bytes (standing journal (kind_of kind) space name) (patching journal moment kind space name) outcome
+AnswersCall journal moment bytes (paths.remove kind space name) outcome = outcome ≡ settled (removing journal kind space name)
+AnswersCall journal moment bytes other outcome = outcome ≡ settled (Err NoSuchPath)
 
--- the answer to a POST of a value, by the plain manifest that it is
-abbrev pub AnswersManifest : List Entry → ℕ → List ℕ → Option Plain → Reply → Option Entry → Type 0
-AnswersManifest journal moment space None reply made = (reply ≡ no_such_path) × (made ≡ None)
-AnswersManifest journal moment space (Some plain) reply made =
-    AnswersPlain journal moment space plain (standing space plain.name journal) reply made
+abbrev pub AnswersRoute : Log → ℕ → List ℕ → Result paths.Call PathError → Outcome → Type 0
+AnswersRoute journal moment bytes (Err fault) outcome = outcome ≡ only (path_refused fault)
+AnswersRoute journal moment bytes (Ok call) outcome = AnswersCall journal moment bytes call outcome
 
--- the answer to a POST
-abbrev pub AnswersCreate : List Entry → ℕ → List ℕ → List ℕ → Reply → Option Entry → Type 0
-AnswersCreate journal moment space body reply made =
-    (IsUnreadable body × (reply ≡ unreadable_body) × (made ≡ None))
-    ⊎ ((json : Json) × IsReadable body json × AnswersManifest journal moment space (plain_of json) reply made)
+-- the reply to a request over the journal at a moment, and the write that it makes, if any
+unfoldable pub Answers : Log → ℕ → Request → Outcome → Type 0
+Answers journal moment request outcome = AnswersRoute journal moment request.body (call_of request.method request.target) outcome
 
--- the answer to a GET, by what stands under the name
-abbrev pub AnswersRead : List ℕ → Option (ℕ × Entry) → Reply → Type 0
-AnswersRead name None reply = reply ≡ not_found name
-AnswersRead name (Some found) reply = reply ≡ shown 200 found.0 found.1
-
-abbrev pub AnswersCall : List Entry → ℕ → List ℕ → Call → Reply → Option Entry → Type 0
-AnswersCall journal moment body (create space) reply made = AnswersCreate journal moment space body reply made
-AnswersCall journal moment body (read space name) reply made = AnswersRead name (standing space name journal) reply × (made ≡ None)
-AnswersCall journal moment body unknown reply made = (reply ≡ no_such_path) × (made ≡ None)
-
--- the reply to a request over the journal at a moment, and the entry that it makes, if any
-abbrev pub Answers : List Entry → ℕ → Request → Reply → Option Entry → Type 0
-Answers journal moment request reply made = AnswersCall journal moment request.body (call_of request.method request.target) reply made
+-- ---- the change
 
 -- the moment, which never falls
 abbrev pub later : ℕ → Option ℕ → ℕ
 later moment None = moment
 later moment (Some now) = max moment now
 
--- the world with the moment moved, the mark added, and the entry that was made
-abbrev pub with_mark : State → ℕ → Option Entry → State
-with_mark old moment made = record {
-  journal = old.journal ++ option_to_list made;
+-- a client's write sees the whole journal, and is made at the moment
+abbrev pub write_of : Log → ℕ → ClientPlan → Write Object Kind Key Name Actor
+write_of journal moment plan = record { plan = plan; actor = Client; seen = length journal; read_at = moment; moment = moment }
+
+-- the journal with what the store makes of the write, if there is one
+unfoldable pub journal_after : Log → ℕ → Option ClientPlan → Log
+journal_after journal moment None = journal
+journal_after journal moment (Some plan) = entries_after object_item.ghosts key_order.ghosts.cmp journal (write_of journal moment plan)
+
+-- what a request found: the journal's length and the moment
+abbrev pub mark_at : Log → ℕ → Mark
+mark_at journal moment = record { position = length journal; moment = moment }
+
+-- the world with the moment moved, the mark added, and what was written; all else stays
+abbrev pub after_request : State → ℕ → Option ClientPlan → State
+after_request old moment plan = record old {
+  journal = journal_after old.journal moment plan;
   moment = moment;
   marks = old.marks ++ mark_at old.journal moment ∷ [];
 }
 
--- a request: its reply and its entry are those over the journal at the mark
-pub record Asks (old : State) (now : Option ℕ) (request : Request) (reply : Reply) (new : State) : Type 0 where
-  pub made : Option Entry
-  pub answers : Answers old.journal (later old.moment now) request reply made
-  pub noted : new ≡ with_mark old (later old.moment now) made
+-- a request at a moment: its reply and its write are those over the journal, and its mark is added
+pub record AnswersAt (old new : Log) (before now : List Mark) (moment : ℕ) (request : Request) (reply : Reply) : Type 0 where
+  pub outcome : Outcome
+  pub answers : Answers old moment request outcome
+  pub replies : reply ≡ outcome.reply
+  pub written : new ≡ journal_after old moment outcome.plan
+  pub marked : now ≡ before ++ mark_at old moment ∷ []
 
--- behind a reply the world does nothing
+-- a request: its reply and its write are those over the journal at its mark
+pub record Asks (old : State) (now : Option ℕ) (request : Request) (reply : Reply) (new : State) : Type 0 where
+  pub outcome : Outcome
+  pub answers : Answers old.journal (later old.moment now) request outcome
+  pub replies : reply ≡ outcome.reply
+  pub changes : new ≡ after_request old (later old.moment now) outcome.plan
+
+-- behind a reply the world does nothing: there are no automatic steps
 abbrev pub After : State → State → Type 0
 After old new = new ≡ old
 

@@ -1,7 +1,7 @@
-pub mod Paths
-pub mod Calls
-pub mod Manifests
-pub mod Seen
-pub mod Journal
+pub mod Refusals
 pub mod Replies
+pub mod Kept
+pub mod Objects
+pub mod Calls
 pub mod Ask
+pub mod Stops

@@ -1,15 +1,25 @@
 //! The API server: a world that answers requests over the journal that it keeps.
+//!
+//! Each request finds the journal as it stands, and is refused for the first reason that holds, or gets its reply and
+//! makes at most one write. What it found is noted as a mark. The reply, the entry and the mark are prepared before
+//! anything is changed, so a want of memory changes nothing.
 #![tactic(auto)]
 
-mod journal;
-mod manifest;
-mod object;
-mod path;
-mod reply;
+mod answers;
+mod bodies;
+mod creating;
+mod mark;
+mod objects;
+mod outcome;
+mod patching;
+mod puts;
+mod reads;
+mod refusal;
+mod removing;
+mod replacing;
+mod replies;
+mod standing;
 mod world;
 
-pub use journal::{Entry, Mark};
+pub use mark::Mark;
 pub use world::World;
-
-#[cfg(test)]
-mod tests;

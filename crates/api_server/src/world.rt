@@ -1,26 +1,28 @@
 //! The world: its journal, its moment and its marks, and how it answers requests.
-ghost use Rattle.std.specs.Prelude.{◌≡◌, ◌≤◌, ◌<◌, [], option_map, Some, None, IfOk, OnOk, OnErr};
-ghost use Rattle.std.specs.Option.{ForSome};
+ghost use Rattle.std.specs.Prelude.{◌≡◌, ◌≤◌, ◌<◌, ◌-◌, ◌^◌, [], length, IfOk, OnErr};
 ghost use Rattle.http_session.specs.Reply.{IsReply};
-ghost use Rattle.api_server.specs.Journal.{standing};
+ghost use Rattle.std.specs.Option.{ForSome};
 ghost use Rattle.api_server.specs.Ask as spec;
-ghost use Rattle.api_server.specs.Seen.{plain_seen};
+ghost use Rattle.api_server.specs.Kept.{AreKept};
+ghost use Rattle.api_server.specs.Stops.{CanBeMade};
 
-use crate::journal::{Entry, Mark};
-use crate::manifest::{PlainManifest, plain_of};
-use crate::object::show;
-use crate::path::{Call, call_of};
-use crate::reply::{already_exists, no_such_path, not_found, unreadable_body};
+use crate::answers::answer;
+use crate::mark::Mark;
 use http_session::{Handler, Reply, Request};
-use json_tree::{JsonError, Seq, Text, read_json};
+use json_tree::Seq;
+use resource_types::{Actor, Object};
 use std::alloc::{AllocError, Global};
 use std::marker::Model;
+use version_store::store::Store;
+use version_store::write::{Plan, Write};
 
-/// A world: the journal of all that was made, the moment, and a mark for each request that was answered.
+/// A world: the store of all that was written, the moment, and a mark for each request that was answered.
+///
+/// Contracts see it as its journal, its moment and its marks.
 #[derive(Drop)]
 pub struct World {
     alloc: Global,
-    journal: Seq<Entry>,
+    store: Store<Object>,
     moment: u64,
     marks: Seq<Mark>,
 }
@@ -28,31 +30,65 @@ pub struct World {
 impl Model for World {
     ghost use Rattle.std.specs.Prelude.{◌≤◌};
     ghost use Rattle.api_server.specs.Ask.{State};
+    ghost use Rattle.api_server.specs.Kept.{IsKeptWorld};
+    ghost use Rattle.json_tree.specs.contracts.json.Json as json;
+    ghost use Rattle.std.specs.Coded.{codes};
 
     ghost Value = { State };
 
-    ghost view = { λ w. record { journal = w.journal; moment = w.moment; marks = w.marks } };
+    ghost coded = { Prim.hlevel (codes, json.the_row.coded) };
 
-    ghost invariant = { λ w. w.moment ≤ 253402300799 };
+    ghost view = { λ w. record { journal = w.store.entries; moment = w.moment; marks = w.marks } };
+
+    ghost invariant = { λ w. IsKeptWorld w.store.entries w.moment };
 }
 
-/// A reply, and the entry that its request makes.
-#[derive(Drop)]
-struct Answer {
-    reply: Reply,
-    made: Option<Entry>,
-}
-
-/// An answer that makes nothing.
-fn unchanged(reply: Reply) -> Answer
-    ensures reply { result.reply ≡ reply }
-    ensures made { result.made ≡ None }
+/// Makes a client's write, if there is one.
+#[tactic(auto, unfolding(crate::specs::Ask::journal_after))]
+fn apply(store: &mut Store<Object>, moment: u64, plan: Option<Plan<Object>>)
+    requires spare { 1 ≤ store.old.spare }
+    requires room { length store.old.entries < 2 ^ 64 - 1 }
+    requires kept { AreKept store.old.entries }
+    requires plan { ForSome plan CanBeMade }
+    ensures entries { store.new.entries ≡ spec.journal_after store.old.entries moment plan }
+    ensures kept { AreKept store.new.entries }
 {
-    Answer { reply, made: None }
+    let seen = store.version();
+    if let Some(plan) = plan {
+        let _applied = store.apply(Write {
+            plan,
+            actor: Actor::Client,
+            seen,
+            read_at: moment,
+            moment,
+        });
+    }
+}
+
+/// Answers a request at a moment: notes its mark and makes its write, or neither.
+fn answer_at(
+    alloc: Global,
+    store: &mut Store<Object>,
+    marks: &mut Seq<Mark>,
+    moment: u64,
+    request: &Request,
+) -> Result<Reply, AllocError>
+    requires kept { AreKept store.old.entries }
+    ensures answered { IfOk result (spec.AnswersAt store.old.entries store.new.entries marks.old marks.new moment request.now) }
+    ensures reply { IfOk result IsReply }
+    ensures kept { AreKept store.new.entries }
+    ensures cut { OnErr result ((store.new.entries ≡ store.old.entries) × (marks.new ≡ marks.old)) }
+{
+    store.prepare()?;
+    let outcome = answer(alloc, store, moment, request)?;
+    let position = store.version();
+    marks.push(Mark { position, moment })?;
+    apply(store, moment, outcome.plan);
+    Ok(outcome.reply)
 }
 
 impl World {
-    /// A world in which nothing was made, at moment 0.
+    /// A world in which nothing was written, at moment 0.
     pub fn new(alloc: Global) -> World
         ensures journal { result.journal ≡ [] }
         ensures moment { result.moment ≡ 0 }
@@ -60,17 +96,24 @@ impl World {
     {
         World {
             alloc,
-            journal: Seq::new(alloc),
+            store: Store::new(alloc),
             moment: 0,
             marks: Seq::new(alloc),
         }
     }
 
-    /// All that was made, in order.
-    pub fn journal(&self) -> &Seq<Entry>
-        ensures { result.now ≡ self.now.journal }
+    /// All that was written, and what stands by it.
+    pub fn store(&self) -> &Store<Object>
+        ensures { result.now.entries ≡ self.now.journal }
     {
-        &self.journal
+        &self.store
+    }
+
+    /// The moment, in whole seconds from 1970 in UTC, at most 253,402,300,799.
+    pub fn now(&self) -> u64
+        ensures { result ≡ self.now.moment }
+    {
+        self.moment
     }
 
     /// A mark for each request that was answered, in order.
@@ -91,128 +134,6 @@ impl World {
             None => self.moment,
         }
     }
-
-    /// The entry that made the Configuration of this namespace and name, with its version.
-    fn standing(&self, space: &str, name: &str) -> Option<(u64, &Entry)>
-        ensures { option_map (λ found. (found.0, found.1.now)) result ≡ standing space.now name.now self.now.journal }
-    {
-        let mut version = 0u64;
-        'entries: for entry in self.journal.as_slice() {
-            version = version.saturating_add(1);
-            if entry.space.as_str() == space && entry.name.as_str() == name {
-                return Some((version, entry));
-            }
-        }
-        None
-    }
-}
-
-impl World {
-    /// Makes what a plain manifest asks for, where nothing stands under its name.
-    fn make(
-        &self,
-        moment: u64,
-        space: &str,
-        plain: &PlainManifest<'_>,
-    ) -> Result<Answer, AllocError>
-        requires { moment ≤ 253402300799 }
-        ensures answer { IfOk result (λ a. spec.Makes self.now.journal moment space.now (plain_seen plain.now) a.reply a.made) }
-        ensures reply { IfOk result (λ a. IsReply a.reply) }
-    {
-        let Some(version) = (self.journal.len() as u64).checked_add(1) else {
-            return Err(AllocError);
-        };
-        let entry = Entry {
-            space: Text::new(self.alloc, space)?,
-            name: plain.name.copy(self.alloc)?,
-            image: plain.image.copy(self.alloc)?,
-            created: moment,
-        };
-        let reply = show(self.alloc, 201, version, &entry)?;
-        Ok(Answer {
-            reply,
-            made: Some(entry),
-        })
-    }
-
-    /// The answer to a POST of a plain manifest.
-    fn create_plain(
-        &self,
-        moment: u64,
-        space: &str,
-        plain: &PlainManifest<'_>,
-    ) -> Result<Answer, AllocError>
-        requires { moment ≤ 253402300799 }
-        ensures answer { IfOk result (λ a. spec.AnswersManifest self.now.journal moment space.now (Some (plain_seen plain.now)) a.reply a.made) }
-        ensures reply { IfOk result (λ a. IsReply a.reply) }
-    {
-        match self.standing(space, plain.name.as_str()) {
-            Some(_) => Ok(unchanged(already_exists(self.alloc, plain.name.as_str())?)),
-            None => self.make(moment, space, plain),
-        }
-    }
-
-    /// The answer to a POST.
-    fn create(&self, moment: u64, space: &str, body: &[u8]) -> Result<Answer, AllocError>
-        requires { moment ≤ 253402300799 }
-        ensures answer { IfOk result (λ a. spec.AnswersCreate self.now.journal moment space.now body.now a.reply a.made) }
-        ensures reply { IfOk result (λ a. IsReply a.reply) }
-    {
-        let json = match read_json(self.alloc, body) {
-            Ok(json) => json,
-            Err(JsonError::Memory) => return Err(AllocError),
-            Err(_) => return Ok(unchanged(unreadable_body(self.alloc)?)),
-        };
-        match plain_of(&json) {
-            Some(plain) => self.create_plain(moment, space, &plain),
-            None => Ok(unchanged(no_such_path(self.alloc)?)),
-        }
-    }
-
-    /// The reply to a GET.
-    fn read(&self, space: &str, name: &str) -> Result<Reply, AllocError>
-        ensures answer { IfOk result (λ r. spec.AnswersRead name.now (standing space.now name.now self.now.journal) r) }
-        ensures reply { IfOk result IsReply }
-    {
-        match self.standing(space, name) {
-            Some((version, entry)) => show(self.alloc, 200, version, entry),
-            None => not_found(self.alloc, name),
-        }
-    }
-
-    /// The answer to a request at a moment.
-    fn answer(&self, moment: u64, request: &Request) -> Result<Answer, AllocError>
-        requires { moment ≤ 253402300799 }
-        ensures answer { IfOk result (λ a. spec.Answers self.now.journal moment request.now a.reply a.made) }
-        ensures reply { IfOk result (λ a. IsReply a.reply) }
-    {
-        match call_of(request) {
-            Call::Create { space } => self.create(moment, space, request.body.as_slice()),
-            Call::Read { space, name } => Ok(unchanged(self.read(space, name)?)),
-            Call::Unknown => Ok(unchanged(no_such_path(self.alloc)?)),
-        }
-    }
-
-    /// Notes a request's mark and the entry that it made, both or neither.
-    fn commit(&mut self, moment: u64, made: Option<Entry>) -> Result<(), AllocError>
-        requires { moment ≤ 253402300799 }
-        ensures done { OnOk result (self.new ≡ spec.with_mark self.old moment made) }
-        ensures cut { OnErr result (self.new ≡ self.old) }
-    {
-        let mark = Mark {
-            position: self.journal.len() as u64,
-            moment,
-        };
-        self.marks.push(mark)?;
-        if let Some(entry) = made {
-            if let Err(error) = self.journal.push(entry) {
-                let _mark = self.marks.pop();
-                return Err(error);
-            }
-        }
-        self.moment = moment;
-        Ok(())
-    }
 }
 
 impl Handler for World {
@@ -227,12 +148,20 @@ impl Handler for World {
     ghost after_cut = { After };
 
     /// Answers a request over the journal as it stands, and notes its mark.
-    /// After a want of memory the world is as before.
+    ///
+    /// After a refusal the journal is as before and the mark is added. After a want of memory the world is as before.
+    #[tactic(auto, using(crate::proofs::Handles::asks_of))]
     fn handle(&mut self, now: Option<u64>, request: &Request) -> Result<Reply, AllocError> {
         let moment = self.moment_of(now);
-        let answer = self.answer(moment, request)?;
-        self.commit(moment, answer.made)?;
-        Ok(answer.reply)
+        let reply = answer_at(
+            self.alloc,
+            &mut self.store,
+            &mut self.marks,
+            moment,
+            request,
+        )?;
+        self.moment = moment;
+        Ok(reply)
     }
 
     /// Does nothing: there are no automatic steps.

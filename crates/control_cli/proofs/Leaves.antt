@@ -1,7 +1,6 @@
 -- What the end of a session means for its run.
-use Rattle.std.proofs.Common.{◌≡◌, ℕ, ◌<◌, List, [], ◌∷◌, ◌++◌, length, take, Option, None, refl, sym, ap, subst, ◌∙◌, inl, inr}
+use Rattle.std.proofs.Common.{◌≡◌, ℕ, List, [], ◌∷◌, ◌++◌, take, sym, subst, inl, inr}
 use Rattle.http_session.specs.declared.report.ClockMode.TheVariants.{Leave}
-use Rattle.http_session.specs.declared.report.HeadFault.{HeadFault}
 use Rattle.http_session.specs.declared.report.SessionEnd.{SessionEnd}
 use Rattle.http_session.specs.declared.report.SessionEnd.TheVariants.{Clean, Closed, Cut, Bad, ReadFault, WriteFault, TooLong, Memory}
 use Rattle.http_session.specs.declared.message.Asked.{Asked}

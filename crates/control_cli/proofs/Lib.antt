@@ -1,4 +1,5 @@
 pub mod Replays
 pub mod Leaves
-pub mod OneWord
+pub mod Words
+pub mod Starts
 pub mod Complete

@@ -1,11 +1,9 @@
 -- What the exchanges of a session are over a world.
-use Rattle.std.proofs.Common.{◌≡◌, ℕ, ◌+◌, List, [], ◌∷◌, ◌++◌, length, map, replicate, Option, Some, None, refl, sym, ap, subst, ◌∙◌, arith, append-nil, append_assoc, length-append}
+use Rattle.std.proofs.Common.{◌≡◌, ℕ, ◌+◌, List, [], ◌∷◌, ◌++◌, length, replicate, Option, None, refl, sym, ap, subst, ◌∙◌, arith, append-nil, append_assoc, length-append}
 use Rattle.std.specs.Io.KnownBytes.{Appends}
 use Rattle.http_session.specs.declared.report.ClockMode.TheVariants.{Leave}
-use Rattle.http_session.specs.declared.message.Asked.{Asked}
 use Rattle.http_session.specs.Session.{Exchange, exchange_bytes, moments_in, asked_in, replies_in, Run, SessionState, Served, TakesMoments}
-use Rattle.api_server.specs.Journal.{mark_at}
-use Rattle.api_server.specs.Ask.{State, Asks, After, later}
+use Rattle.api_server.specs.Ask.{State, Asks, After, later, mark_at}
 use Rattle.control_cli.specs.Runs.{Replays}
 
 -- each request that was answered has added its mark
@@ -14,7 +12,7 @@ marks_of old [] new run = grind (arith, ap (λ (w : State). length w.marks) run)
 marks_of old (x ∷ done) new (answered, next, asks, idle, rest) =
     let tail = marks_of next done new rest in
     let kept = ap (λ (w : State). length w.marks) idle in
-    let noted = ap (λ (w : State). length w.marks) asks.noted in
+    let noted = ap (λ (w : State). length w.marks) asks.changes in
     let one = length-append old.marks (mark_at old.journal (later old.moment x.now) ∷ []) in
     omega (arith, tail, kept, noted, one)
 

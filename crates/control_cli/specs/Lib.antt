@@ -1,4 +1,4 @@
 pub mod Status
 pub mod Ends
-pub mod Words
+pub mod Checks
 pub mod Runs

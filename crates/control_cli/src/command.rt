@@ -1,15 +1,17 @@
 //! The top call.
-ghost use Rattle.std.specs.Prelude.{◌≡◌, ◌↔◌};
+ghost use Rattle.std.specs.Prelude.{◌≡◌, ◌⊎◌};
 ghost use Rattle.http_session.specs.Session.{state_of};
-ghost use Rattle.control_cli.specs.Ends.{status_of};
-ghost use Rattle.control_cli.specs.Words.{IsCommand};
+ghost use Rattle.command_words.specs.Grammar.{IsCommand, IsOutside};
+ghost use Rattle.control_cli.specs.Ends.{status_of, status_of_check};
 ghost use Rattle.control_cli.specs.Runs.{ReplayLeaves, IsComplete};
+ghost use Rattle.control_cli.specs.Checks.{CheckLeaves};
 
 use crate::status::Status;
-use crate::words::is_command;
 use api_server::World;
+use command_words::{Command, WordsError, read_command};
 use http_session::{ClockMode, SessionEnd, session};
 use json_tree::Text;
+use manifest_check::{CheckEnd, check};
 use serve_io::{Clock, Gate, Sink, Source};
 use std::alloc::Global;
 
@@ -49,10 +51,25 @@ fn replay<S: Source, K: Sink, C: Clock>(
     status_of(report.end)
 }
 
-/// Runs the command of the words over a world: `replay` is one session over the source, whose replies go to the sink.
+/// The status that stands for the end of a check.
+fn status_of_check(end: CheckEnd) -> Status
+    ensures { result ≡ status_of_check end }
+{
+    match end {
+        CheckEnd::Done => Status::Done,
+        CheckEnd::Refused => Status::ManifestRefused,
+        CheckEnd::ReadFault => Status::ReadFault,
+        CheckEnd::WriteFault => Status::WriteFault,
+        CheckEnd::Memory => Status::Memory,
+    }
+}
+
+/// Runs the command of the words over a world: `replay` is one session over the source, whose replies go to the sink, and
+/// `check` reads one manifest from the source and writes it with its defaults, or its refusal, to the sink.
 ///
 /// A source or a sink that fails ends the run with its status, and so does want of memory. Words outside the grammar are
 /// `Usage`: nothing is read or written, and the world is as before. The clock and the gate aren't used.
+#[tactic(auto, using(crate::proofs::Words::not_both, crate::proofs::Starts::leaves_at_once, crate::proofs::Starts::complete_at_once, crate::proofs::Starts::check_at_once, crate::proofs::Starts::check_leaves))]
 pub fn run<S: Source, K: Sink, C: Clock, G: Gate>(
     alloc: Global,
     words: &[Text],
@@ -62,23 +79,29 @@ pub fn run<S: Source, K: Sink, C: Clock, G: Gate>(
     clock: &mut C,
     gate: &mut G,
 ) -> Status
-    ensures usage { (result ≡ Status.Usage) ↔ ¬ (IsCommand words.now) }
-    ensures untouched { result ≡ Status.Usage
+    ensures usage { result ≡ Status.Usage → IsOutside words.now }
+    ensures outside { IsOutside words.now → (result ≡ Status.Usage) ⊎ (result ≡ Status.Memory) }
+    ensures untouched { IsOutside words.now
         → state_of world.new (S.left source.new) (S.faults source.new) (K.taken sink.new) (K.faults sink.new) (C.moments clock.new)
         ≡ state_of world.old (S.left source.old) (S.faults source.old) (K.taken sink.old) (K.faults sink.old) (C.moments clock.old) }
-    ensures leaves { IsCommand words.now → ReplayLeaves
+    ensures replay { IsCommand words.now Command.Replay → ReplayLeaves
         (state_of world.old (S.left source.old) (S.faults source.old) (K.taken sink.old) (K.faults sink.old) (C.moments clock.old))
         (state_of world.new (S.left source.new) (S.faults source.new) (K.taken sink.new) (K.faults sink.new) (C.moments clock.new))
         result }
-    ensures complete { IsCommand words.now → IsComplete
+    ensures complete { IsCommand words.now Command.Replay → IsComplete
+        (state_of world.old (S.left source.old) (S.faults source.old) (K.taken sink.old) (K.faults sink.old) (C.moments clock.old))
+        (state_of world.new (S.left source.new) (S.faults source.new) (K.taken sink.new) (K.faults sink.new) (C.moments clock.new))
+        result }
+    ensures check { IsCommand words.now Command.Check → CheckLeaves
         (state_of world.old (S.left source.old) (S.faults source.old) (K.taken sink.old) (K.faults sink.old) (C.moments clock.old))
         (state_of world.new (S.left source.new) (S.faults source.new) (K.taken sink.new) (K.faults sink.new) (C.moments clock.new))
         result }
     ensures gate { gate.new ≡ gate.old }
 {
-    if is_command(words) {
-        replay(alloc, world, source, sink, clock)
-    } else {
-        Status::Usage
+    match read_command(alloc, words) {
+        Ok(Command::Replay) => replay(alloc, world, source, sink, clock),
+        Ok(Command::Check) => status_of_check(check(alloc, source, sink)),
+        Err(WordsError::Usage) => Status::Usage,
+        Err(WordsError::Memory) => Status::Memory,
     }
 }

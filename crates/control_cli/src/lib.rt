@@ -1,9 +1,8 @@
-//! The command: it reads its words, runs one session over a world, and answers how that ended.
+//! The command: it reads its words, runs what they ask for over a world, and answers how that ended.
 #![tactic(auto)]
 
 mod command;
 mod status;
-mod words;
 
 pub use command::run;
 pub use status::Status;

@@ -26,7 +26,7 @@ const OBJECT: &[u8] =
 struct Outcome {
     status: Status,
     written: Vec<u8>,
-    entries: usize,
+    entries: u64,
     marks: usize,
 }
 
@@ -53,7 +53,7 @@ fn run_over(
     Ok(Outcome {
         status,
         written: sink.bytes().to_vec(alloc)?,
-        entries: world.journal().len(),
+        entries: world.store().version(),
         marks: world.marks().len(),
     })
 }

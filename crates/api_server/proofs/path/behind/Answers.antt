@@ -1,5 +1,0 @@
-use Rattle.api_server.proofs.Fronts.{behind_found}
-use Rattle.api_server.proofs.path.behind.Goals as goal
-
-pub returns : goal.returns
-returns c = behind_found c.args.front.now c.args.text.now c.strip_prefix.result c.strip_prefix.ensures.cases
