@@ -1,0 +1,432 @@
+#!/usr/bin/env python3
+"""Tables of requests and what they get, run against the built program.
+
+usage: tests/tables.py PROGRAM
+
+Each table is a list of cases: a method, a target, a body, the code of the reply and, for a refusal, its message. All cases of a
+table go to one world, in order, as one stream of requests. The expected texts are those of docs/API.md and docs/RESOURCES.md.
+"""
+import copy
+import json
+import subprocess
+import sys
+
+ROOT = "/apis/serving.knative.dev/v1/namespaces"
+BLUE = ROOT + "/blue"
+PLURAL = {"Service": "services", "Configuration": "configurations", "Route": "routes"}
+ABSENT = object()
+
+
+# ---- manifests
+
+def template(**spec):
+    return {"metadata": {"labels": {"a": "b"}, "annotations": {"a": "b"}},
+            "spec": {"containers": [{"image": "img"}], "containerConcurrency": 1, "timeoutSeconds": 2, **spec}}
+
+
+def target(kind):
+    if kind == "Service":
+        return {"latestRevision": True, "percent": 100, "tag": "now"}
+    return {"configurationName": "c", "latestRevision": True, "percent": 100, "tag": "now"}
+
+
+def manifest(kind, name):
+    spec = {}
+    if kind != "Route":
+        spec["template"] = template()
+    if kind != "Configuration":
+        spec["traffic"] = [target(kind)]
+    return {"apiVersion": "serving.knative.dev/v1", "kind": kind,
+            "metadata": {"name": name, "namespace": "blue", "labels": {"a": "b"}, "annotations": {"a": "b"}}, "spec": spec}
+
+
+def steps_of(path):
+    """The members and places on the way to a path such as spec.traffic[0].tag."""
+    steps = []
+    for part in path.split("."):
+        name, _, rest = part.partition("[")
+        steps.append(name)
+        if rest:
+            steps.append(int(rest[:-1]))
+    return steps
+
+
+def changed(value, path, new):
+    """The value with another one at the path, or with none there."""
+    if path == "body":
+        return new
+    value = copy.deepcopy(value)
+    inner = value
+    *way, last = steps_of(path)
+    for step in way:
+        if isinstance(inner, dict):
+            inner = inner.setdefault(step, {})
+        else:
+            inner = inner[step]
+    if new is ABSENT:
+        inner.pop(last, None)
+    else:
+        inner[last] = new
+    return value
+
+
+# ---- shapes
+
+def rows(kind):
+    """The fields in the order in which they are examined: path, a wrong value, what counts as absent and is no fault."""
+    free = (ABSENT, None, "")
+    head = [("body", [], ()), ("apiVersion", 7, ("",)), ("kind", 7, ("",)), ("metadata", 7, ()), ("metadata.name", 7, ("",)),
+            ("metadata.namespace", 7, free), ("metadata.resourceVersion", 7, free), ("metadata.labels", {"x": 7}, free),
+            ("metadata.annotations", {"x": []}, free), ("spec", 7, ())]
+    pod = [("spec.template", 7, ()), ("spec.template.metadata", 7, free), ("spec.template.metadata.name", 7, free),
+           ("spec.template.metadata.labels", {"x": True}, free), ("spec.template.metadata.annotations", 7, free),
+           ("spec.template.spec", 7, ()), ("spec.template.spec.containerConcurrency", -1, free),
+           ("spec.template.spec.timeoutSeconds", "7", free)]
+    traffic = [("spec.traffic", {}, free), ("spec.traffic[0]", 7, ()), ("spec.traffic[0].configurationName", 7, free),
+               ("spec.traffic[0].latestRevision", "true", free), ("spec.traffic[0].percent", True, free),
+               ("spec.traffic[0].revisionName", {}, free), ("spec.traffic[0].tag", 7, free)]
+    return head + (pod if kind != "Route" else []) + (traffic if kind != "Configuration" else [])
+
+
+def shapes():
+    for kind, plural in PLURAL.items():
+        path = f"{BLUE}/{plural}"
+        table = rows(kind)
+        good = manifest(kind, "s")
+        for i, (place, wrong, absent) in enumerate(table):
+            fault = f"wrong shape at {place}"
+            yield "POST", path, changed(good, place, wrong), 400, fault
+            for value in (ABSENT, None, ""):
+                if value is ABSENT and place in ("body", "spec.traffic[0]"):
+                    continue
+                case = changed(good, place, value)
+                if value not in absent:
+                    yield "POST", path, json.dumps(case), 400, fault
+                else:
+                    yield "POST", path, changed(case, "spec.more", 1), None, f"!{fault}"
+            # Of two faults the one that is examined first counts.
+            for later, also_wrong, _ in table[i + 1:]:
+                if not later.startswith(place) and place != "body":
+                    yield "POST", path, changed(changed(good, later, also_wrong), place, wrong), 400, fault
+        if kind != "Configuration":
+            two = changed(good, "spec.traffic", [{"percent": -1}, {"tag": 7}])
+            yield "POST", path, two, 400, "wrong shape at spec.traffic[0].percent"
+            two = changed(good, "spec.traffic", [target(kind), {"tag": 7}])
+            yield "POST", path, two, 400, "wrong shape at spec.traffic[1].tag"
+            two = changed(good, "spec.traffic", [target(kind), None])
+            yield "POST", path, two, 400, "wrong shape at spec.traffic[1]"
+
+
+# ---- rules
+
+LONG = "a" * 43
+
+
+def rules(kind):
+    """Changes that break a rule, in the order in which the rules are examined, with the message."""
+    def at(path, new, message):
+        return [(path, new)], message
+
+    yield at("metadata.name", "Up", "metadata.name: must be a DNS label of at most 42 bytes")
+    if kind != "Route":
+        pod = "spec.template.spec"
+        name = "spec.template.metadata.name: must begin with the name and a dash and be a DNS label"
+        yield at("spec.template.metadata.name", "other-1", name)
+        yield at(f"{pod}.containers", [], f"{pod}.containers: must be a list of 1 to 16 containers")
+        yield at(f"{pod}.containers[0].image", "", f"{pod}.containers[0].image: must be a text that is not empty")
+        yield at(f"{pod}.containerConcurrency", 1001, f"{pod}.containerConcurrency: must be from 0 to 1000")
+        yield at(f"{pod}.timeoutSeconds", 601, f"{pod}.timeoutSeconds: must be from 0 to 600")
+    if kind != "Configuration":
+        first = "spec.traffic[0]"
+        if kind == "Service":
+            yield at(f"{first}.configurationName", "c", f"{first}.configurationName: must be absent")
+        else:
+            yield at(f"{first}.configurationName", ABSENT, f"{first}: must name one revision or one configuration")
+            yield at(f"{first}.configurationName", "C", f"{first}.configurationName: must be a DNS label")
+        yield at(f"{first}.latestRevision", False,
+                 f"{first}.latestRevision: must be true exactly where no revision is named")
+        yield at(f"{first}.percent", 101, f"{first}.percent: must be from 0 to 100")
+        yield at(f"{first}.tag", "Now", f"{first}.tag: must be a DNS label that fits before the name")
+        yield at("spec.traffic[1]", {"tag": "now", "configurationName": "d", "percent": 0} if kind == "Route" else
+                 {"tag": "now", "percent": 0}, "spec.traffic[1].tag: must be used once")
+        yield at("spec.traffic[2]", {"percent": 1, "configurationName": "d"} if kind == "Route" else {"percent": 1},
+                 "spec.traffic: the percents must sum to 100")
+
+
+def broken(good, changes):
+    for path, new in changes:
+        if path.endswith("]") and path.startswith("spec.traffic"):
+            traffic = good["spec"]["traffic"] + [new]
+            good = changed(good, "spec.traffic", traffic)
+        else:
+            good = changed(good, path, new)
+    return good
+
+
+def rule_cases():
+    for kind, plural in PLURAL.items():
+        path = f"{BLUE}/{plural}"
+        table = list(rules(kind))
+        good = manifest(kind, "r")
+        yield "POST", path, good, 201, None
+        for i, (changes, message) in enumerate(table):
+            yield "POST", path, broken(good, changes), 422, message
+            for later, _ in table[i + 1:]:
+                if {p for p, _ in changes} & {p for p, _ in later}:
+                    continue
+                # An image that is broken needs its container, and two breaks of a target need the target.
+                if any(p.startswith(q) for p, _ in later for q, _ in changes):
+                    continue
+                if message.endswith("used once") or "containers:" in message:
+                    continue
+                if message.endswith("fits before the name") and later[0][0] == "spec.traffic[1]":
+                    continue
+                yield "POST", path, broken(good, later + changes), 422, message
+    edge = manifest("Configuration", "a" * 42)
+    yield "POST", f"{BLUE}/configurations", edge, 201, None
+    long = manifest("Configuration", LONG)
+    yield "POST", f"{BLUE}/configurations", long, 422, "metadata.name: must be a DNS label of at most 42 bytes"
+    for name, code in (("n-1", 201), ("n", 422), ("n-", 422), ("m-1", 422), ("n-" + "1" * 61, 201), ("n-" + "1" * 62, 422)):
+        named = changed(manifest("Configuration", "n"), "spec.template.metadata.name", name)
+        named["metadata"]["namespace"] = ABSENT
+        named["metadata"].pop("namespace")
+        yield "POST", f"{ROOT}/n{len(name)}-{code}-{name[0]}/configurations", named, code, None
+    pod = "spec.template.spec"
+    counts = ((0, 422), (1, 201), (16, 201), (17, 422))
+    for count, code in counts:
+        case = changed(manifest("Configuration", f"c{count}"), f"{pod}.containers", [{"image": "i"}] * count)
+        yield "POST", f"{BLUE}/configurations", case, code, None
+        targets = [{"percent": 0} for _ in range(count)]
+        if targets:
+            targets[0] = {"percent": 100}
+        case = changed(manifest("Service", f"t{count}"), "spec.traffic", targets)
+        # A Service without targets has its default.
+        yield "POST", f"{BLUE}/services", case, 201 if count == 0 else code, None
+        targets = [{**entry, "configurationName": "c"} for entry in targets]
+        case = changed(manifest("Route", f"t{count}"), "spec.traffic", targets)
+        yield "POST", f"{BLUE}/routes", case, code, None
+    for member, most in (("containerConcurrency", 1000), ("timeoutSeconds", 600)):
+        for value, code in ((0, 201), (most, 201), (most + 1, 422), (2 ** 64 - 1, 422)):
+            case = changed(manifest("Configuration", f"l{value % 9973}{member[0]}"), f"{pod}.{member}", value)
+            yield "POST", f"{BLUE}/configurations", case, code, None
+    third = f"{pod}.containers[2].image: must be a text that is not empty"
+    for image in ("", 7, None):
+        case = changed(manifest("Service", "img"), f"{pod}.containers", [{"image": "i"}, {"image": "i"}, {"image": image}])
+        yield "POST", f"{BLUE}/services", case, 422, third
+    case = changed(manifest("Service", "img"), f"{pod}.containers", [{"image": "i"}, {"image": "i"}, "img"])
+    yield "POST", f"{BLUE}/services", case, 422, third
+    # A tag, a dash and the name are at most 63 bytes.
+    for length, code in ((20, 201), (21, 422)):
+        case = changed(manifest("Service", "a" * 42), "spec.traffic[0].tag", "t" * length)
+        yield "POST", f"{ROOT}/tag{length}/services", changed(case, "metadata.namespace", ABSENT), code, None
+    for name, most, code in (("r", 63, 201), ("r", 64, 422)):
+        entry = {"revisionName": "v" * most, "percent": 100}
+        case = changed(manifest("Route", f"{name}{most}"), "spec.traffic", [entry])
+        yield "POST", f"{BLUE}/routes", case, code, None
+    both = {"revisionName": "v", "configurationName": "c", "percent": 100}
+    case = changed(manifest("Route", "both"), "spec.traffic", [both])
+    yield "POST", f"{BLUE}/routes", case, 422, "spec.traffic[0]: must name one revision or one configuration"
+    old = {"revisionName": "v", "latestRevision": True, "percent": 100}
+    case = changed(manifest("Route", "old"), "spec.traffic", [old])
+    message = "spec.traffic[0].latestRevision: must be true exactly where no revision is named"
+    yield "POST", f"{BLUE}/routes", case, 422, message
+
+
+# ---- paths, methods and queries
+
+METHODS = ("GET", "POST", "PUT", "PATCH", "DELETE", "HEAD", "OPTIONS", "get")
+
+
+def paths():
+    """Each path with each method: the methods that it has, by what the call says of an empty body or an absent object."""
+    named = {"GET": 404, "PUT": 400, "PATCH": 400, "DELETE": 404}
+    collections = [(f"{BLUE}/{p}", {"GET": 200, "POST": 400}) for p in PLURAL.values()]
+    objects = [(f"{BLUE}/{p}/x", named) for p in PLURAL.values()]
+    others = [(f"{BLUE}/revisions", {"GET": 200}), (f"{BLUE}/revisions/x", {"GET": 404, "DELETE": 404}),
+              (f"{ROOT}/{'a' * 63}/routes", {"GET": 200, "POST": 400})]
+    control = [(f"/control/{p}", {"POST": 404}) for p in ("reports", "clock", "steps", "settle")]
+    control += [(f"/control/{p}", {"GET": 404}) for p in ("tables", "summary")]
+    for path, has in collections + objects + others + control:
+        for method in METHODS:
+            if method in has:
+                yield method, path, "", has[method], None
+            else:
+                yield method, path, "", 405, "no such method on this path"
+    for path in ("/", "*", "/apis", ROOT, f"{ROOT}/", f"{ROOT}/blue", f"{ROOT}/blue/", f"{ROOT}/Blue/services", f"{ROOT}//services",
+                 f"{ROOT}/-a/services", f"{ROOT}/{'a' * 64}/services", f"{BLUE}/service", f"{BLUE}/services/", f"{BLUE}/services/a/b",
+                 f"{BLUE}/Services", f"{BLUE}/tables", f"{BLUE}/health", f"/{BLUE}/services", f"x{BLUE}/services", "/control", "/control/",
+                 "/control/table", "/control/tables/", "/control/tables/x", "/apis/serving.knative.dev/v2/namespaces/blue/services"):
+        for method in METHODS:
+            yield method, path, "", 404, "no such path"
+
+
+def queries():
+    lists = f"{BLUE}/routes"
+    good = ("", "?", "?&", "?a", "?a=b", "?dryRun", "?dryRun=", "?watch=0", "?watch=false", "?watch=1", "?watch=true", "?resourceVersion",
+            "?resourceVersion=", "?resourceVersion=0", "?resourceVersion=0&watch=1", "?watch=1&resourceVersion=", "?Watch=7", "?x=1?watch=7",
+            "?resourceVersion=9999999999999999999", "?labelSelector=a%3Db&limit=5")
+    bad = ("?dryRun=All", "?dryRun=x&watch=1", "?a&dryRun==", "?watch", "?watch=", "?watch=2", "?watch=True", "?watch=1&watch=1",
+           "?watch=0&watch=1", "?resourceVersion=1&resourceVersion=1", "?resourceVersion&resourceVersion", "?resourceVersion=x",
+           "?resourceVersion=-1", "?resourceVersion=+1", "?resourceVersion=12345678901234567890", "?watch=1=1", "?resourceVersion=1 ".strip() + "x")
+    for query in good:
+        yield "GET", lists + query, "", 200, None
+    for query in bad:
+        yield "GET", lists + query, "", 400, "bad query"
+    # On other calls only a dry run is refused.
+    for method, path, code in (("GET", f"{BLUE}/routes/x", 404), ("POST", lists, 400), ("DELETE", f"{BLUE}/routes/x", 404)):
+        yield method, path + "?watch=7&watch=8&resourceVersion=x", "", code, "!bad query"
+        yield method, path + "?dryRun=All", "", 400, "bad query"
+    # The method comes before the query, and the path before the method.
+    yield "PUT", lists + "?dryRun=All", "", 405, "no such method on this path"
+    yield "PUT", f"{BLUE}/x?dryRun=All", "", 404, "no such path"
+    yield "GET", lists + "?watch=1&resourceVersion=1", "", 400, "resourceVersion 1 is beyond 0"
+    yield "GET", lists + "?watch=true&resourceVersion=0001", "", 400, "resourceVersion 1 is beyond 0"
+
+
+# ---- what comes first
+
+def calls():
+    path, one = f"{BLUE}/configurations", f"{BLUE}/configurations/one"
+    good = manifest("Configuration", "one")
+    yield "POST", path, "{", 400, "the body is not readable JSON"
+    yield "POST", path, '{"a":1.5}', 400, "the body is not readable JSON"
+    yield "POST", path, "[" * 33 + "]" * 33, 400, "the body is not readable JSON"
+    yield "POST", path, "[" * 32 + "]" * 32, 400, "wrong shape at body"
+    # The parts that must match, in their order.
+    parts = (("apiVersion", "v1"), ("kind", "Service"), ("metadata.namespace", "red"))
+    for i, (part, value) in enumerate(parts):
+        case = changed(good, part, value)
+        yield "POST", path, case, 400, f"{part} does not match the path"
+        yield "POST", path, changed(case, "metadata.resourceVersion", "1"), 400, f"{part} does not match the path"
+        for later, other in parts[i + 1:]:
+            yield "POST", path, changed(case, later, other), 400, f"{part} does not match the path"
+    given = changed(good, "metadata.resourceVersion", "1")
+    yield "POST", path, given, 400, "metadata.resourceVersion must be absent"
+    yield "POST", path, changed(given, "metadata.name", "Up"), 400, "metadata.resourceVersion must be absent"
+    # A replacement: rules, the version, what stands, the version that stands.
+    bad = changed(good, "spec.template.spec.timeoutSeconds", 601)
+    message = "spec.template.spec.timeoutSeconds: must be from 0 to 600"
+    yield "PUT", one, bad, 422, message
+    yield "PUT", one, good, 422, "metadata.resourceVersion: must be given"
+    yield "PUT", one, given, 404, 'configurations "one" not found'
+    yield "PUT", one, changed(given, "metadata.name", "two"), 400, "metadata.name does not match the path"
+    # A patch: the body, what stands, and then what the patched document says.
+    yield "PATCH", one, "{", 400, "the body is not readable JSON"
+    yield "PATCH", one, "7", 404, 'configurations "one" not found'
+    yield "POST", path, good, 201, None
+    yield "POST", path, good, 409, 'configurations "one" already exists'
+    yield "POST", path, bad, 422, message
+    yield "PUT", one, changed(given, "metadata.resourceVersion", "2"), 409, 'configurations "one" has version 1'
+    yield "PUT", one, changed(given, "metadata.resourceVersion", "01"), 409, 'configurations "one" has version 1'
+    yield "PATCH", one, "7", 400, "wrong shape at body"
+    yield "PATCH", one, {"metadata": {"name": "two"}}, 400, "metadata.name does not match the path"
+    yield "PATCH", one, {"kind": "Route", "metadata": {"resourceVersion": "7"}}, 400, "kind does not match the path"
+    yield "PATCH", one, {"spec": {"template": {"spec": {"timeoutSeconds": 601}}}, "metadata": {"resourceVersion": "7"}}, 422, message
+    yield "PATCH", one, {"metadata": {"resourceVersion": "7"}}, 409, 'configurations "one" has version 1'
+    # A name that is kept, and a template that changes under it.
+    kept = "spec.template.metadata.name: the template changed under a kept name"
+    named = changed(given, "spec.template.metadata.name", "one-a")
+    yield "PUT", one, named, 200, None
+    two = changed(named, "metadata.resourceVersion", "2")
+    yield "PUT", one, changed(two, "spec.template.spec.timeoutSeconds", 3), 422, kept
+    yield "PUT", one, changed(changed(two, "spec.template.spec.timeoutSeconds", 3), "metadata.resourceVersion", "1"), 409, \
+        'configurations "one" has version 2'
+    yield "PATCH", one, {"spec": {"template": {"spec": {"timeoutSeconds": 3}}}}, 422, kept
+    yield "PATCH", one, {"spec": {"template": {"metadata": {"name": "one-b"}, "spec": {"timeoutSeconds": 3}}}}, 200, None
+    # What a replacement doesn't change makes no entry.
+    three = changed(changed(changed(two, "metadata.resourceVersion", "3"), "spec.template.metadata.name", "one-b"),
+                    "spec.template.spec.timeoutSeconds", 3)
+    yield "PUT", one, three, 200, None
+    yield "PUT", one, three, 200, None
+    yield "GET", path + "?watch=1&resourceVersion=4", "", 400, "resourceVersion 4 is beyond 3"
+    yield "DELETE", one, "anything", 200, None
+    yield "DELETE", one, "", 404, 'configurations "one" not found'
+    yield "GET", one, "", 404, 'configurations "one" not found'
+    yield "PUT", one, three, 404, 'configurations "one" not found'
+    for kind, plural in PLURAL.items():
+        yield "GET", f"{BLUE}/{plural}/x", "", 404, f'{plural} "x" not found'
+    yield "GET", f"{BLUE}/revisions/x", "", 404, 'revisions "x" not found'
+
+
+# ---- merges (RFC 7396, appendix A, below a member of a pod spec)
+
+MERGES = [({"a": "b"}, {"a": "c"}, {"a": "c"}), ({"a": "b"}, {"b": "c"}, {"a": "b", "b": "c"}), ({"a": "b"}, {"a": None}, {}),
+          ({"a": "b", "b": "c"}, {"a": None}, {"b": "c"}), ({"a": ["b"]}, {"a": "c"}, {"a": "c"}), ({"a": "c"}, {"a": ["b"]}, {"a": ["b"]}),
+          ({"a": {"b": "c"}}, {"a": {"b": "d", "c": None}}, {"a": {"b": "d"}}), ({"a": [{"b": "c"}]}, {"a": [1]}, {"a": [1]}),
+          (["a", "b"], ["c", "d"], ["c", "d"]), ({"a": "b"}, ["c"], ["c"]), ({"a": "foo"}, "bar", "bar"),
+          ({"e": None}, {"a": 1}, {"e": None, "a": 1}), ([1, 2], {"a": "b", "c": None}, {"a": "b"}),
+          ({}, {"a": {"bb": {"ccc": None}}}, {"a": {"bb": {}}}), ({"a": [None]}, {"b": [{"c": None}]}, {"a": [None], "b": [{"c": None}]})]
+
+
+def merges():
+    for i, (old, patch, new) in enumerate(MERGES):
+        name = f"m{i}"
+        yield "POST", f"{BLUE}/configurations", changed(manifest("Configuration", name), "spec.template.spec.x", old), 201, None
+        for _ in range(2):
+            yield "PATCH", f"{BLUE}/configurations/{name}", {"spec": {"template": {"spec": {"x": patch}}}}, 200, ("x", new)
+
+
+# ---- running
+
+def stream(cases):
+    parts = []
+    for method, path, body, _, _ in cases:
+        data = body if isinstance(body, str) else json.dumps(body, separators=(",", ":"))
+        data = data.encode()
+        parts.append(f"{method} {path} HTTP/1.1\r\nHost: x\r\nContent-Length: {len(data)}\r\n\r\n".encode() + data)
+    return b"".join(parts)
+
+
+def replies(out, cases):
+    at = 0
+    for method, *_ in cases:
+        end = out.index(b"\r\n\r\n", at) + 4
+        head = out[at:end].decode()
+        length = int(head.split("Content-Length: ")[1].split("\r\n")[0])
+        body = b"" if method == "HEAD" else out[end:end + length]
+        at = end + len(body)
+        yield int(head.split(" ")[1]), head, body
+    assert at == len(out), "the program wrote more than these replies"
+
+
+def differs(case, reply):
+    method, path, _, code, message = case
+    got, head, body = reply
+    if code is not None and got != code:
+        return f"code {got}, not {code}: {body[:200]!r}"
+    if (got == 405) != ("Allow: " in head):
+        return "Allow stands exactly in a reply of code 405"
+    if method == "HEAD" or message is None:
+        return None
+    said = json.loads(body)
+    if isinstance(message, tuple):
+        member, value = message
+        found = said["spec"]["template"]["spec"].get(member)
+        return None if found == value else f"{found!r}, not {value!r}"
+    text = said.get("message", "")
+    if message.startswith("!"):
+        return f"message {text!r}" if text == message[1:] else None
+    return None if text == message else f"message {text!r}, not {message!r}"
+
+
+def main(program):
+    failed = 0
+    for table in (shapes, rule_cases, paths, queries, calls, merges):
+        cases = list(table())
+        run = subprocess.run([program, "replay"], input=stream(cases), capture_output=True, check=False)
+        wrong = []
+        if run.returncode != 0:
+            wrong.append(f"status {run.returncode}: {run.stderr.decode()}")
+        for case, reply in zip(cases, replies(run.stdout, cases)):
+            fault = differs(case, reply)
+            if fault:
+                wrong.append(f"{case[0]} {case[1]} {json.dumps(case[2])[:300]}: {fault}")
+        for line in wrong[:20]:
+            print(f"{table.__name__}: {line}")
+        print(f"{table.__name__}: {len(cases)} cases, {len(wrong)} wrong")
+        failed += len(wrong)
+    return 1 if failed else 0
+
+
+if __name__ == "__main__":
+    sys.exit(main(sys.argv[1]))
