@@ -1,6 +1,6 @@
 -- Patches: what comes of the patched document of what stands.
 use Rattle.std.proofs.Common.{◌≡◌, ℕ, Bool, List, Option, Some, None, Result, Ok, Err, refl, sym, ap, subst, ◌∙◌}
-use Rattle.json_tree.specs.declared.json.Json.{Json, Null}
+use Rattle.json_tree.specs.declared.value.Json.{Json, Null}
 use Rattle.resource_types.specs.declared.names.Kind.{Kind}
 use Rattle.resource_types.specs.declared.names.ClientKind.{ClientKind}
 use Rattle.resource_types.specs.declared.objects.Object.{Object}

@@ -1,6 +1,6 @@
 -- A request has one answer: what it comes to is a function of the journal, the moment and the request.
 use Rattle.std.proofs.Common.{◌≡◌, ℕ, List, Option, Some, None, Result, Ok, Err, refl, sym, ap, subst, ◌∙◌}
-use Rattle.json_tree.specs.declared.json.Json.{Json}
+use Rattle.json_tree.specs.declared.value.Json.{Json}
 use Rattle.json_tree.proofs.Back.{data_tells}
 use Rattle.http_session.specs.declared.message.Request.{Request}
 use Rattle.resource_types.specs.declared.names.ClientKind.{ClientKind}

@@ -1,6 +1,6 @@
 -- What a request gets, and what it changes.
 use Rattle.std.specs.Prelude.{◌≡◌, false, ℕ, max, List, [], ◌∷◌, ◌++◌, length, Option, Some, None, Result, Ok, Err}
-use Rattle.json_tree.specs.declared.json.Json.{Json}
+use Rattle.json_tree.specs.declared.value.Json.{Json}
 use Rattle.http_session.specs.declared.message.Request.{Request}
 use Rattle.http_session.specs.declared.message.Reply.{Reply}
 use Rattle.version_store.specs.declared.write.Write.{Write}

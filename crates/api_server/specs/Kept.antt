@@ -3,7 +3,7 @@ use Rattle.std.specs.Prelude.{◌≡◌, ◌≤◌, ℕ, List, IsTrue}
 use Rattle.std.specs.Option.{ForSome}
 use Rattle.std.specs.List.{All}
 use Rattle.json_tree.specs.Tree.{is_well_formed, depth_of}
-use Rattle.json_tree.specs.declared.json.Json.{Json}
+use Rattle.json_tree.specs.declared.value.Json.{Json}
 use Rattle.version_store.specs.declared.write.Entry.{Entry}
 use Rattle.resource_types.specs.declared.names.Kind.{Kind}
 use Rattle.resource_types.specs.declared.names.ClientKind.{ClientKind}

@@ -2,7 +2,7 @@
 use Rattle.std.specs.Prelude.{◌≡◌, ◌≢◌, Option, Some, None, Result, Ok, Err}
 use Rattle.std.specs.Option.{ForSome}
 use Rattle.std.specs.Borrow.{Bor}
-use Rattle.json_tree.specs.declared.json.Json.{Json}
+use Rattle.json_tree.specs.declared.value.Json.{Json}
 use Rattle.http_session.specs.declared.message.Allow.TheVariants as allow
 use Rattle.http_session.specs.Reply.{IsReply}
 use Rattle.version_store.specs.Apply.{IsMakeable}

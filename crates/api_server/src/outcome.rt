@@ -1,6 +1,6 @@
 //! What a request comes to.
 ghost use Rattle.std.specs.Prelude.{◌≡◌, Option, IfOk};
-ghost use Rattle.json_tree.specs.declared.json.Json.{Json};
+ghost use Rattle.json_tree.specs.declared.value.Json.{Json};
 ghost use Rattle.resource_types.specs.declared.objects.Object.{Object};
 ghost use Rattle.api_server.specs.Replies.{refused};
 ghost use Rattle.api_server.specs.Calls as spec;

@@ -31,7 +31,7 @@ impl Model for World {
     ghost use Rattle.std.specs.Prelude.{◌≤◌};
     ghost use Rattle.api_server.specs.Ask.{State};
     ghost use Rattle.api_server.specs.Kept.{IsKeptWorld};
-    ghost use Rattle.json_tree.specs.contracts.json.Json as json;
+    ghost use Rattle.json_tree.specs.contracts.value.Json as json;
     ghost use Rattle.std.specs.Coded.{codes};
 
     ghost Value = { State };

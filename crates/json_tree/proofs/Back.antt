@@ -3,11 +3,11 @@ use Rattle.std.proofs.Common.{◌≡◌, ℕ, List, [], ◌∷◌, map, refl, sy
 use Rattle.serde_json.specs.Data.{Num, Data, Items, no_items, item, Members, no_members, member, null, boolean, number, unsigned, negative, float, string, array, object}
 use Rattle.serde_json.specs.View.{items_of}
 use Rattle.json_tree.specs.Tree.{data_of, data_step, members_data}
-use Rattle.json_tree.specs.declared.json.Json.{Json, Null, Bool, Int, Nat, Str, Arr, Obj}
-use Rattle.json_tree.specs.declared.json.Json.TheOpen.{Json-F}
-use Rattle.json_tree.specs.declared.json.Json.TheViews.{roll-Json}
-use Rattle.json_tree.specs.declared.json.Json.TheVariants.{rolls-Null, rolls-Bool, rolls-Int, rolls-Nat, rolls-Str, rolls-Arr, rolls-Obj}
-use Rattle.json_tree.specs.declared.json.Json.TheFolds.{fold-roll-Json, ind-Json, map-Json}
+use Rattle.json_tree.specs.declared.value.Json.{Json, Null, Bool, Int, Nat, Str, Arr, Obj}
+use Rattle.json_tree.specs.declared.value.Json.TheOpen.{Json-F}
+use Rattle.json_tree.specs.declared.value.Json.TheViews.{roll-Json}
+use Rattle.json_tree.specs.declared.value.Json.TheVariants.{rolls-Null, rolls-Bool, rolls-Int, rolls-Nat, rolls-Str, rolls-Arr, rolls-Obj}
+use Rattle.json_tree.specs.declared.value.Json.TheFolds.{fold-roll-Json, ind-Json, map-Json}
 
 abbrev of_num : Num → Json
 of_num (unsigned n) = Nat n

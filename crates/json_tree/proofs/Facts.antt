@@ -11,7 +11,7 @@ use Rattle.serde_json.specs.Data.{Data, Members, no_members, member, object, put
 use Rattle.serde_json.specs.View.{view, members_view}
 use Rattle.serde_json.proofs.Views.{Entry}
 use Rattle.json_tree.specs.Tree.{rises, is_before_all, member_names, names_of, table_data, data_of}
-use Rattle.json_tree.specs.declared.json.Json.{Json, Obj, the_lemmas}
+use Rattle.json_tree.specs.declared.value.Json.{Json, Obj, the_lemmas}
 use Rattle.json_tree.specs.declared.members.Table.{Table}
 
 before_all : (k : String Global) (es : List Entry) → AllByRecursion (λ y. string_cmp k y ≡ Less) (keys_of es) → is_before_all (string_bytes k) (member_names (members_view es)) ≡ true

@@ -8,7 +8,7 @@ use Rattle.std.proofs.lemmas.Map.Text.{is_eq-slice_cmp}
 use Rattle.std.proofs.lemmas.Slice.Eq.{bytes_eq-Decides}
 use Rattle.serde_json.specs.Data.{null, boolean, number, unsigned, negative, string, array, object, members_depth}
 use Rattle.json_tree.specs.Tree.{data_of, items_data, table_data, depth_of, is_well_formed, are_well_formed, values_are_well, rises, names_rise, names_of, find, put_entry}
-use Rattle.json_tree.specs.declared.json.Json.{Json, Null, Bool, Int, Nat, Str, Arr, Obj, the_lemmas}
+use Rattle.json_tree.specs.declared.value.Json.{Json, Null, Bool, Int, Nat, Str, Arr, Obj, the_lemmas}
 use Rattle.json_tree.specs.declared.members.Table.{Table}
 use Rattle.json_tree.proofs.Facts.{data_of-Obj, member_names-table_data}
 use Rattle.json_tree.proofs.Rising.{rises-put_entry}

@@ -5,8 +5,8 @@ use Rattle.std.specs.Cmp.Lexicographic.{slice_cmp}
 use Rattle.std.specs.Str.{bytes_eq}
 use Rattle.serde_json.specs.Data.{Num, Data, Items, no_items, item, Members, no_members, member, null, boolean, number, unsigned, negative, float, string, array, object, depth}
 use Rattle.serde_json.specs.View.{items_of}
-use Rattle.json_tree.specs.declared.json.Json.{Json, fold-Json}
-use Rattle.json_tree.specs.declared.json.Json.TheOpen.{Json-F}
+use Rattle.json_tree.specs.declared.value.Json.{Json, fold-Json}
+use Rattle.json_tree.specs.declared.value.Json.TheOpen.{Json-F}
 
 -- ---- the data of a value, in the words of `serde_json`
 

@@ -1,10 +1,10 @@
 //! Exact tests of equality.
 ghost use Rattle.std.specs.Prelude.{◌≡◌, ◌↔◌, IsTrue};
 
-use crate::json::Json;
 use crate::members::Table;
 use crate::seq::Seq;
 use crate::text::Text;
+use crate::value::Json;
 
 /// Values of which it can be told whether they are equal.
 ///

@@ -1,10 +1,10 @@
 //! Exact copies.
 ghost use Rattle.std.specs.Prelude.{◌≡◌, IfOk};
 
-use crate::json::Json;
 use crate::members::Table;
 use crate::seq::Seq;
 use crate::text::Text;
+use crate::value::Json;
 use std::alloc::{AllocError, Global};
 
 /// A value of which a copy can be made that is equal to it.

@@ -1,10 +1,10 @@
 //! Copies of JSON values.
 ghost use Rattle.std.specs.Prelude.{◌≡◌, IfOk};
 
-use crate::json::Json;
 use crate::members::Members;
 use crate::seq::Seq;
 use crate::text::Text;
+use crate::value::Json;
 use std::alloc::{AllocError, Global};
 
 impl Json {

@@ -2,10 +2,10 @@
 ghost use Rattle.std.specs.Cmp.{partial_equiv_from_equiv};
 ghost use Rattle.json_tree.specs.Equal.{is_equal};
 ghost use Rattle.json_tree.specs.EqualLaws.{is_equal-equivalence};
-ghost use Rattle.json_tree.specs.contracts.json.Json.{the_row};
+ghost use Rattle.json_tree.specs.contracts.value.Json.{the_row};
 
 use crate::alike::Alike;
-use crate::json::Json;
+use crate::value::Json;
 
 impl PartialEq for Json {
     ghost eq = { is_equal the_row.coded };

@@ -8,7 +8,6 @@
 mod alike;
 mod copied;
 mod copy;
-mod json;
 mod json_equal;
 mod members;
 mod read;
@@ -16,16 +15,17 @@ mod roomy;
 mod seq;
 mod seq_equal;
 mod text;
+mod value;
 mod write;
 
 pub use alike::Alike;
 pub use copied::Copied;
-pub use json::Json;
 pub use members::{Members, Table};
 pub use read::{JsonError, MAX_DEPTH, read_json};
 pub use roomy::Roomy;
 pub use seq::Seq;
 pub use text::Text;
+pub use value::Json;
 pub use write::{MAX_WRITTEN_DEPTH, have_same_text, reads_back, write_json};
 
 #[cfg(test)]

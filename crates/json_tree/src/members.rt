@@ -4,9 +4,9 @@ ghost use Rattle.json_tree.specs.Tree.{find, put_entry, names_of, names_rise, is
 ghost use Rattle.json_tree.specs.Places.{GoesTo};
 
 use crate::copied::Copied;
-use crate::json::Json;
 use crate::seq::Seq;
 use crate::text::Text;
+use crate::value::Json;
 use std::alloc::{AllocError, Global};
 use std::cmp::Ordering;
 
@@ -116,6 +116,16 @@ impl<T: Drop> Table<T> {
             }
             Place::Before(place) => self.entries.insert(place, (name, value)),
         }
+    }
+
+    /// Puts a value under a name, as [`Table::put`] does, and copies the name into new memory of the table's allocator.
+    pub fn put_named(&mut self, name: &str, value: T) -> Result<(), AllocError>
+        ensures ok { OnOk result (self.new.entries ≡ put_entry name.now value self.old.entries) }
+        ensures err { OnErr result (self.new.entries ≡ self.old.entries) }
+        ensures order { IsTrue (names_rise (names_of self.old.entries)) → IsTrue (names_rise (names_of self.new.entries)) }
+    {
+        let name = Text::new(self.allocator(), name)?;
+        self.put(name, value)
     }
 
     /// Adds a pair at the end, without a search. Names that rise strictly go on to do so where the new one comes after

@@ -7,10 +7,10 @@ ghost use Rattle.serde_json.specs.Find.{is_float};
 ghost use Rattle.json_tree.specs.Tree.{data_of, items_data, table_data, depth_of, is_well_formed, is_well, items_are_well, values_are_well, rises, is_proper};
 ghost use Rattle.json_tree.specs.Answers.{IsReading, IsRefusedFor};
 
-use crate::json::Json;
 use crate::members::Members;
 use crate::seq::Seq;
 use crate::text::Text;
+use crate::value::Json;
 use serde_json::{Map, Number, Value};
 use std::alloc::{AllocError, Global};
 use thiserror::Error;

@@ -109,14 +109,17 @@ fn keeps_names_in_order(rt: HostRuntime) -> Result<(), Fail> {
         members.put(Text::new(alloc, name)?, Json::Nat(value))?;
     }
     members.add(Text::new(alloc, "d")?, Json::Str(Text::new(alloc, "five")?))?;
-    assert_eq!(rt; members.len(), 4);
+    for (name, text) in [("a", "six"), ("bb", "")] {
+        members.put_named(name, Json::text(alloc, text)?)?;
+    }
+    assert_eq!(rt; members.len(), 5);
     assert!(rt; matches!(members.get("b"), Some(Json::Nat(4))));
     assert!(rt; members.get("e").is_none());
     let copy = members.copy(alloc)?;
     assert_eq!(rt; copy, members);
     let json = Json::Obj(members);
     assert_eq!(rt; json.clone()?, json);
-    let want = read_json(alloc, br#"{"a":2,"b":4,"c":3,"d":"five"}"#)?;
+    let want = read_json(alloc, br#"{"a":"six","b":4,"bb":"","c":3,"d":"five"}"#)?;
     assert_eq!(rt; json, want);
     Ok(())
 }

@@ -1,14 +1,13 @@
 //! Writing JSON, and the laws of reading what was written.
-ghost use Rattle.std.specs.Prelude.{◌≡◌, ◌≤◌, ◌↔◌, IsTrue, IsFalse, Some, IfOk, IfErr, IsUtf8};
+ghost use Rattle.std.specs.Prelude.{◌≡◌, ◌≤◌, ◌↔◌, IsTrue, IsFalse, Some, IfOk, IfErr, OnOk, IsUtf8};
 ghost use Rattle.serde_json.specs.Read.{read};
-ghost use Rattle.serde_json.specs.View.{view, items_view, members_view};
-ghost use Rattle.serde_json.specs.Written.{has_float, items_have_float, members_have_float, compact_text};
+ghost use Rattle.serde_json.specs.Written.{has_float, compact_text, WritesValue, WritesItems, WritesMembers};
 ghost use Rattle.json_tree.specs.Tree.{data_of, items_data, table_data, is_well_formed, items_are_well, values_are_well, rises, depth_of};
 
-use crate::json::Json;
 use crate::read::{JsonError, read_json};
 use crate::text::Text;
-use serde_json::{Map, Value};
+use crate::value::Json;
+use json::Writer;
 use std::alloc::{AllocError, Global};
 
 /// How deep arrays and objects may nest in a value that is written.
@@ -25,7 +24,9 @@ pub fn write_json(alloc: Global, json: &Json) -> Result<Vec<u8>, AllocError>
     ensures reads_back { IfOk result (λ bytes. read bytes.items ≡ Some (data_of json.now)) }
     ensures whole { IfOk result (λ _. IsFalse (has_float (data_of json.now))) }
 {
-    value_of(alloc, json)?.to_vec(alloc)
+    let mut out = Writer::new(Vec::with_capacity(alloc, 128)?);
+    write_value(json, &mut out)?;
+    Ok(out.into_inner())
 }
 
 /// The law of the round trip: a well-formed value that is at most 32 deep is read again from what was written of it.
@@ -55,50 +56,54 @@ pub fn have_same_text(alloc: Global, one: &Json, two: &Json) -> Result<bool, All
     Ok(one_text == two_text)
 }
 
-// The value as one of `serde_json`.
-#[cycle(value)]
-fn value_of(alloc: Global, json: &Json) -> Result<Value, AllocError>
+// Writes the tokens of the value.
+#[cycle(write)]
+fn write_value(json: &Json, out: &mut Writer) -> Result<(), AllocError>
     requires { IsTrue (is_well_formed json.now) }
-    ensures data { IfOk result (λ value. view value ≡ data_of json.now) }
-    ensures whole { IfOk result (λ _. IsFalse (has_float (data_of json.now))) }
+    ensures ok { OnOk result (WritesValue (data_of json.now) out.old.tokens out.new.tokens) }
+    ensures before { out.new.before ≡ out.old.before }
 {
     match json {
-        Json::Null => Ok(Value::Null),
-        Json::Bool(b) => Ok(Value::Bool(*b)),
-        Json::Int(z) => Ok(Value::from(*z)),
-        Json::Nat(n) => Ok(Value::from(*n)),
-        Json::Str(text) => Ok(Value::String(String::from_str(alloc, text.as_str())?)),
-        Json::Arr(items) => Ok(Value::Array(array_of(alloc, items.as_slice())?)),
-        Json::Obj(members) => Ok(Value::Object(map_of(alloc, members.entries())?)),
+        Json::Null => out.null(),
+        Json::Bool(b) => out.boolean(*b),
+        Json::Int(z) => out.i64(*z),
+        Json::Nat(n) => out.u64(*n),
+        Json::Str(text) => out.string(text.as_str()),
+        Json::Arr(items) => {
+            out.begin_array()?;
+            write_items(items.as_slice(), out)
+        }
+        Json::Obj(members) => {
+            out.begin_object()?;
+            write_members(members.entries(), out)
+        }
     }
 }
 
-#[cycle(value)]
-fn array_of(alloc: Global, items: &[Json]) -> Result<Vec<Value>, AllocError>
+// Writes the items, and the bracket that closes the array.
+#[cycle(write)]
+fn write_items(items: &[Json], out: &mut Writer) -> Result<(), AllocError>
     requires { IsTrue (items_are_well (items_data items.now)) }
-    ensures data { IfOk result (λ found. items_view found.items ≡ items_data items.now) }
-    ensures whole { IfOk result (λ _. IsFalse (items_have_float (items_data items.now))) }
+    ensures ok { OnOk result (WritesItems (items_data items.now) out.old.tokens out.new.tokens) }
+    ensures before { out.new.before ≡ out.old.before }
 {
-    let mut found = Vec::new(alloc);
     for item in items {
-        let value = value_of(alloc, item)?;
-        found.push(value)?;
+        write_value(item, out)?;
     }
-    Ok(found)
+    out.end_array()
 }
 
-#[cycle(value)]
-fn map_of(alloc: Global, members: &[(Text, Json)]) -> Result<Map<String, Value>, AllocError>
+// Writes the members, and the brace that closes the object.
+#[cycle(write)]
+fn write_members(members: &[(Text, Json)], out: &mut Writer) -> Result<(), AllocError>
     requires rises { IsTrue (rises (table_data members.now)) }
     requires well { IsTrue (values_are_well (table_data members.now)) }
-    ensures data { IfOk result (λ found. members_view found.entries ≡ table_data members.now) }
-    ensures whole { IfOk result (λ _. IsFalse (members_have_float (table_data members.now))) }
+    ensures ok { OnOk result (WritesMembers (table_data members.now) out.old.tokens out.new.tokens) }
+    ensures before { out.new.before ≡ out.old.before }
 {
-    let mut found = Map::new(alloc);
     for member in members {
-        let name = String::from_str(alloc, member.0.as_str())?;
-        let value = value_of(alloc, &member.1)?;
-        drop(found.insert(name, value)?);
+        out.key(member.0.as_str())?;
+        write_value(&member.1, out)?;
     }
-    Ok(found)
+    out.end_object()
 }

@@ -2,7 +2,7 @@
 use Rattle.std.specs.Prelude.{◌≡◌, ◌⊎◌, ℕ, ◌<◌, ◌≤◌, List, [], length, take, Option, Result, Ok, Err}
 use Rattle.std.specs.Option.{IfSome}
 use Rattle.std.specs.Io.KnownBytes.{Consumes, Appends}
-use Rattle.json_tree.specs.declared.json.Json.{Json}
+use Rattle.json_tree.specs.declared.value.Json.{Json}
 use Rattle.serve_io.specs.Causes.{Rose}
 use Rattle.http_session.specs.Session.{IsAll}
 use Rattle.resource_types.specs.declared.manifests.Manifest.{Manifest}

@@ -6,9 +6,9 @@ use Rattle.serde_json.specs.View.{items_of}
 use Rattle.serde_json.specs.Written.{has_float, items_have_float, members_have_float}
 use Rattle.json_tree.specs.Answers.{IsRefusedFor}
 use Rattle.json_tree.specs.Tree.{data_of, data_step, members_data}
-use Rattle.json_tree.specs.declared.json.Json.{Json}
-use Rattle.json_tree.specs.declared.json.Json.TheOpen.{Json-F}
-use Rattle.json_tree.specs.declared.json.Json.TheFolds.{fold-roll-Json, ind-Json, map-Json}
+use Rattle.json_tree.specs.declared.value.Json.{Json}
+use Rattle.json_tree.specs.declared.value.Json.TheOpen.{Json-F}
+use Rattle.json_tree.specs.declared.value.Json.TheFolds.{fold-roll-Json, ind-Json, map-Json}
 use Rattle.json_tree.specs.declared.read.JsonError.{JsonError}
 use Rattle.json_tree.specs.declared.read.JsonError.TheVariants.{Malformed, FloatNumber, TooDeep, Memory}
 use Rattle.json_tree.proofs.RoundTrip.{same_read}

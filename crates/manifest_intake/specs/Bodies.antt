@@ -2,7 +2,7 @@
 use Rattle.std.specs.Prelude.{◌≢◌, ℕ, ◌≤◌, List, Option, Some, None, IsTrue}
 use Rattle.json_tree.specs.Answers.{IsReading, IsRefusedFor}
 use Rattle.json_tree.specs.Tree.{data_of, is_well_formed, depth_of}
-use Rattle.json_tree.specs.declared.json.Json.{Json}
+use Rattle.json_tree.specs.declared.value.Json.{Json}
 use Rattle.json_tree.specs.declared.read.JsonError.{JsonError}
 use Rattle.json_tree.specs.declared.read.JsonError.TheVariants.{Memory}
 

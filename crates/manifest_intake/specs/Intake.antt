@@ -1,8 +1,8 @@
 -- The manifest that a body gives, with its defaults, or the first reason to refuse it.
 use Rattle.std.specs.Prelude.{◌≡◌, ◌||◌, ℕ, Bool, true, List, codes, Option, Some, None, Result, Ok, Err, if◌then◌else◌}
 use Rattle.std.specs.Str.{bytes_eq}
-use Rattle.json_tree.specs.declared.json.Json.{Json}
-use Rattle.json_tree.specs.declared.json.Json.TheViews.{out-Json}
+use Rattle.json_tree.specs.declared.value.Json.{Json}
+use Rattle.json_tree.specs.declared.value.Json.TheViews.{out-Json}
 use Rattle.serve_names.specs.Labels.{is_label_of}
 use Rattle.resource_types.specs.Manifests.{api_version}
 use Rattle.resource_types.specs.declared.names.ClientKind.{ClientKind}

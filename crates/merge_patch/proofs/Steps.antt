@@ -3,7 +3,7 @@ use Rattle.std.proofs.Common.{◌≡◌, ◌+◌, ◌<◌, ◌≤◌, ℕ, true,
 use Rattle.std.proofs.lemmas.List.{drop_more}
 use Rattle.serde_json.specs.Data.{Data, Members, object, members_depth}
 use Rattle.json_tree.specs.Tree.{data_of, depth_of, is_well, is_well_formed, values_are_well, rises, table_data}
-use Rattle.json_tree.specs.declared.json.Json.{Json}
+use Rattle.json_tree.specs.declared.value.Json.{Json}
 use Rattle.merge_patch.specs.Merge.{without, value_or_null, put_unless_null, merge_of, merged}
 use Rattle.merge_patch.proofs.Names.{both}
 use Rattle.merge_patch.proofs.Laws.{changed, put_back, well-change}

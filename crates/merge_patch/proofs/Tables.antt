@@ -9,7 +9,7 @@ use Rattle.std.specs.Prelude.{unwrap_or}
 use Rattle.std.specs.Str.{bytes_eq}
 use Rattle.serde_json.specs.Data.{member, null, put, members_depth}
 use Rattle.json_tree.specs.Tree.{data_of, depth_of, is_well_formed, values_are_well, table_data, find, put_entry}
-use Rattle.json_tree.specs.declared.json.Json.{Json}
+use Rattle.json_tree.specs.declared.value.Json.{Json}
 use Rattle.merge_patch.specs.Merge.{lookup, without, value_or_null}
 use Rattle.merge_patch.proofs.Names.{equal_name, same_name, both}
 

@@ -4,9 +4,9 @@ use Rattle.std.specs.Str.{bytes_eq}
 use Rattle.std.specs.Prelude.{filter}
 use Rattle.std.specs.List.{filter_map, list_all}
 use Rattle.json_tree.specs.Tree.{find}
-use Rattle.json_tree.specs.declared.json.Json.{Json, Bool as truth_of, Nat, Arr, Obj, the_lemmas}
-use Rattle.json_tree.specs.declared.json.Json.TheViews.{out-Json}
-use Rattle.json_tree.specs.declared.json.Json.TheOpen.{Json-F}
+use Rattle.json_tree.specs.declared.value.Json.{Json, Bool as truth_of, Nat, Arr, Obj, the_lemmas}
+use Rattle.json_tree.specs.declared.value.Json.TheViews.{out-Json}
+use Rattle.json_tree.specs.declared.value.Json.TheOpen.{Json-F}
 use Rattle.json_tree.specs.declared.members.Table.{Table}
 use Rattle.resource_types.specs.declared.names.ClientKind.{ClientKind}
 use Rattle.resource_types.specs.declared.names.ClientKind.TheVariants as kind

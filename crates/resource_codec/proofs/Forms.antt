@@ -4,7 +4,7 @@ use Rattle.std.specs.Prelude.{◌++◌, if◌then◌else◌, Some}
 use Rattle.std.specs.Fmt.{decimal}
 use Rattle.serde_json.specs.Data.{items_depth}
 use Rattle.json_tree.specs.Tree.{items_data, items_are_well}
-use Rattle.json_tree.specs.declared.json.Json.{Json}
+use Rattle.json_tree.specs.declared.value.Json.{Json}
 use Rattle.resource_types.specs.Manifests.{api_version, kind_word}
 use Rattle.resource_types.specs.Objects.{same_kind}
 use Rattle.resource_types.specs.declared.names.Kind.{Kind}

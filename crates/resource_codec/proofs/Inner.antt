@@ -6,10 +6,10 @@ use Rattle.std.specs.Ordering.{nat_cmp, is_lt}
 use Rattle.std.specs.Cmp.Lexicographic.{slice_cmp}
 use Rattle.serde_json.specs.Data.{Data, object, depth, members_depth}
 use Rattle.json_tree.specs.Tree.{find, data_of, data_step, table_data, is_well, values_are_well, rises, names_of, names_rise, is_before_all}
-use Rattle.json_tree.specs.declared.json.Json.{Json}
-use Rattle.json_tree.specs.declared.json.Json.TheViews.{out-Json}
-use Rattle.json_tree.specs.declared.json.Json.TheFolds.{fold_out-Json, map-Json}
-use Rattle.json_tree.specs.declared.json.Json.TheOpen.{Json-F}
+use Rattle.json_tree.specs.declared.value.Json.{Json}
+use Rattle.json_tree.specs.declared.value.Json.TheViews.{out-Json}
+use Rattle.json_tree.specs.declared.value.Json.TheFolds.{fold_out-Json, map-Json}
+use Rattle.json_tree.specs.declared.value.Json.TheOpen.{Json-F}
 use Rattle.json_tree.specs.declared.members.Table.{Table}
 use Rattle.json_tree.proofs.Facts.{member_names-table_data}
 use Rattle.json_tree.proofs.Laws.{is_well_formed-find, depth_of-find}

@@ -1,7 +1,7 @@
 -- Targets that are read one after another are the targets of the list.
 use Rattle.std.proofs.Common.{◌≡◌, ℕ, suc, ◌+◌, ◌<◌, ◌≤◌, List, [], ◌∷◌, ◌++◌, length, get_or, drop, Result, Ok, Err, refl, sym, ap, ◌∙◌, append_assoc, arith}
 use Rattle.std.proofs.lemmas.List.{append-nil, drop_more, drop_all}
-use Rattle.json_tree.specs.declared.json.Json.{Json}
+use Rattle.json_tree.specs.declared.value.Json.{Json}
 use Rattle.resource_types.specs.declared.specification.Target.{Target}
 use Rattle.resource_codec.specs.declared.fields.Field.{Field}
 use Rattle.resource_codec.specs.declared.fields.DecodeError.{DecodeError}

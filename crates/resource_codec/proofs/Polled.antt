@@ -10,7 +10,7 @@ use Rattle.std.proofs.lemmas.List.{drop_more, drop_all, map-append}
 use Rattle.std.proofs.lemmas.List.Elements.{All-nil, All-cons, All-head, All-tail, All-take, All-drop, All-filter}
 use Rattle.serde_json.specs.Data.{items_depth}
 use Rattle.json_tree.specs.Tree.{items_data, items_are_well}
-use Rattle.json_tree.specs.declared.json.Json.{Json}
+use Rattle.json_tree.specs.declared.value.Json.{Json}
 use Rattle.version_store.specs.declared.write.Entry.{Entry}
 use Rattle.version_store.specs.State as store
 use Rattle.resource_types.specs.declared.names.Kind.{Kind}

@@ -2,7 +2,7 @@
 use Rattle.std.proofs.Common.{◌≡◌, ℕ, ◌≤◌, true, codes, List, [], ◌∷◌, Option, Some, None, Ok, refl, sym, ap, subst, arith}
 use Rattle.serde_json.specs.Data.{Data, depth}
 use Rattle.json_tree.specs.Tree.{names_of, names_rise, is_well}
-use Rattle.json_tree.specs.declared.json.Json.{Json}
+use Rattle.json_tree.specs.declared.value.Json.{Json}
 use Rattle.json_tree.specs.declared.members.Table.{Table}
 use Rattle.json_tree.proofs.Laws.{data_of-Null}
 use Rattle.json_tree.proofs.Rising.{rises-put_entry}

@@ -2,7 +2,7 @@
 use Rattle.std.proofs.Common.{◌≡◌, ℕ, suc, ◌≤◌, Bool, true, false, ◌&&◌, List, [], ◌∷◌, map, Option, Some, None, refl, sym, ap, subst, ◌∙◌, arith}
 use Rattle.serde_json.specs.Data.{Data, object, array, depth, items_depth}
 use Rattle.json_tree.specs.Tree.{data_of, items_data, table_data, is_well, items_are_well}
-use Rattle.json_tree.specs.declared.json.Json.{Json, Bool as truth_of, Nat, Str, Arr}
+use Rattle.json_tree.specs.declared.value.Json.{Json, Bool as truth_of, Nat, Str, Arr}
 use Rattle.json_tree.proofs.Laws.{data_of-Bool, data_of-Nat, data_of-Str, data_of-Arr, data_of-object, is_well_formed-Obj, values_are_well-put_entry, members_depth-put_entry}
 use Rattle.json_tree.proofs.Rising.{rises-put_entry}
 use Rattle.resource_codec.specs.Reading.{Member}

@@ -1,7 +1,7 @@
 -- Lists of objects, and what changed, as JSON.
 use Rattle.std.specs.Prelude.{◌++◌, ℕ, Bool, true, false, List, [], ◌∷◌, codes, Some, if◌then◌else◌}
 use Rattle.std.specs.Fmt.{decimal}
-use Rattle.json_tree.specs.declared.json.Json.{Json, Arr}
+use Rattle.json_tree.specs.declared.value.Json.{Json, Arr}
 use Rattle.resource_types.specs.Manifests.{api_version, kind_word}
 use Rattle.resource_types.specs.Objects.{same_kind}
 use Rattle.resource_types.specs.declared.names.Kind.{Kind}

@@ -3,7 +3,7 @@ use Rattle.std.specs.Prelude.{◌++◌, ℕ, Bool, true, false, List, [], ◌∷
 use Rattle.std.specs.List.{flat_map}
 use Rattle.std.specs.Str.{bytes_eq}
 use Rattle.std.specs.Fmt.{decimal}
-use Rattle.json_tree.specs.declared.json.Json.{Json, Null}
+use Rattle.json_tree.specs.declared.value.Json.{Json, Null}
 use Rattle.json_tree.specs.declared.members.Table.{Table}
 use Rattle.json_tree.specs.Tree.{put_entry}
 use Rattle.serve_names.specs.Moments.{last_moment, moment_bytes}

@@ -3,9 +3,9 @@ use Rattle.std.specs.Prelude.{◌≡◌, ℕ, Bool, true, false, ◌&&◌, not, 
 use Rattle.std.specs.Borrow.{Bor}
 use Rattle.std.specs.List.{filter_map, list_all}
 use Rattle.std.specs.Str.{bytes_eq}
-use Rattle.json_tree.specs.declared.json.Json.{Json}
-use Rattle.json_tree.specs.declared.json.Json.TheViews.{out-Json}
-use Rattle.json_tree.specs.declared.json.Json.TheOpen.{Json-F}
+use Rattle.json_tree.specs.declared.value.Json.{Json}
+use Rattle.json_tree.specs.declared.value.Json.TheViews.{out-Json}
+use Rattle.json_tree.specs.declared.value.Json.TheOpen.{Json-F}
 use Rattle.json_tree.specs.declared.members.Table.{Table}
 use Rattle.json_tree.specs.Tree.{find}
 use Rattle.resource_codec.specs.declared.fields.Field.{Field}

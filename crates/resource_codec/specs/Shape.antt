@@ -1,7 +1,7 @@
 -- The shape of a manifest, field by field in the order of examination: the manifest that a value is, or the first field that is wrong.
 use Rattle.std.specs.Prelude.{ℕ, suc, List, [], ◌∷◌, codes, Result, Ok}
-use Rattle.json_tree.specs.declared.json.Json.{Json}
-use Rattle.json_tree.specs.declared.json.Json.TheViews.{out-Json}
+use Rattle.json_tree.specs.declared.value.Json.{Json}
+use Rattle.json_tree.specs.declared.value.Json.TheViews.{out-Json}
 use Rattle.resource_types.specs.declared.names.ClientKind.{ClientKind}
 use Rattle.resource_types.specs.declared.names.ClientKind.TheVariants as kind
 use Rattle.resource_types.specs.declared.specification.Template.{Template}

@@ -2,7 +2,7 @@
 use Rattle.std.specs.Prelude.{◌≡◌, ℕ, ◌≤◌, ◌+◌, true, List}
 use Rattle.serde_json.specs.Data.{members_depth}
 use Rattle.json_tree.specs.Tree.{table_data, values_are_well, names_of, names_rise, is_well_formed, depth_of}
-use Rattle.json_tree.specs.declared.json.Json.{Json}
+use Rattle.json_tree.specs.declared.value.Json.{Json}
 use Rattle.resource_types.specs.declared.specification.PodSpec.{PodSpec}
 use Rattle.resource_types.specs.declared.specification.Template.{Template}
 use Rattle.resource_types.specs.declared.manifests.Manifest.{Manifest}

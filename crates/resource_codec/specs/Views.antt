@@ -2,7 +2,7 @@
 use Rattle.std.specs.Prelude.{◌≡◌, ◌+◌, ◌&&◌, ℕ, Bool, true, false, not, List, Option, Some, None, is_some, map, option_map, unwrap_or, take, drop, length, slice_get, bytes_eq, ◌==◌}
 use Rattle.std.specs.List.{All, filter, enumerate_from}
 use Rattle.std.specs.Option.{ForSome}
-use Rattle.json_tree.specs.declared.json.Json.{Json}
+use Rattle.json_tree.specs.declared.value.Json.{Json}
 use Rattle.version_store.specs.declared.write.Entry.{Entry}
 use Rattle.version_store.specs.Journal as journal
 use Rattle.resource_types.specs.declared.names.Kind.{Kind}

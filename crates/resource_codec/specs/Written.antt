@@ -1,7 +1,7 @@
 -- Manifests as JSON: the fields of each part, each put at its place in the order of names.
 use Rattle.std.specs.Prelude.{◌≡◌, ◌≤◌, ◌≢◌, ℕ, Bool, true, List, [], ◌∷◌, codes, Option, Some, None, map, option_map}
 use Rattle.std.specs.List.{list_all}
-use Rattle.json_tree.specs.declared.json.Json.{Json, Bool as truth_of, Nat, Str, Arr, Obj}
+use Rattle.json_tree.specs.declared.value.Json.{Json, Bool as truth_of, Nat, Str, Arr, Obj}
 use Rattle.json_tree.specs.declared.members.Table.{Table}
 use Rattle.json_tree.specs.Tree.{put_entry, names_of, names_rise, is_well_formed, depth_of}
 use Rattle.resource_types.specs.declared.names.ClientKind.{ClientKind}

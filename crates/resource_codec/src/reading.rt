@@ -3,7 +3,7 @@ ghost use Rattle.std.specs.Prelude.{◌≡◌, IfOk};
 ghost use Rattle.std.specs.Option.{option_copied};
 ghost use Rattle.json_tree.specs.Tree.{find};
 ghost use Rattle.resource_codec.specs.Reading.{Gives, entries_of, items_of, layer, under, object as object_at, text as text_at, optional_object as optional_object_at, optional_text as optional_text_at, optional_number as optional_number_at, optional_truth as optional_truth_at, optional_array as optional_array_at, optional_texts as optional_texts_at, texts_in, rest_of, is_rest, is_null};
-ghost use Rattle.json_tree.specs.declared.json.Json.TheViews.{out-Json};
+ghost use Rattle.json_tree.specs.declared.value.Json.TheViews.{out-Json};
 
 use crate::fields::{DecodeError, Field};
 use json_tree::{Json, Members, Seq, Table, Text};

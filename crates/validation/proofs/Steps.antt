@@ -1,8 +1,8 @@
 -- What tables of rules say, one line and one part at a time.
 use Rattle.std.proofs.Common.{◌≡◌, ℕ, suc, ◌+◌, ◌<◌, ◌≤◌, List, [], ◌∷◌, ◌++◌, length, get_or, take, drop, Ok, Err, refl, sym, ap, ◌∙◌, arith}
 use Rattle.std.proofs.lemmas.List.{drop_more, drop_all, take_more, length-take}
-use Rattle.json_tree.specs.declared.json.Json.{Json}
-use Rattle.json_tree.specs.declared.json.Json.TheViews.{out-Json}
+use Rattle.json_tree.specs.declared.value.Json.{Json}
+use Rattle.json_tree.specs.declared.value.Json.TheViews.{out-Json}
 use Rattle.resource_types.specs.declared.names.ClientKind.{ClientKind}
 use Rattle.resource_types.specs.declared.specification.Target.{Target}
 use Rattle.validation.specs.declared.places.Invalid.{Invalid}

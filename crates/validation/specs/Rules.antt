@@ -3,9 +3,9 @@ use Rattle.std.specs.Prelude.{ℕ, suc, Bool, true, false, ◌&&◌, ◌||◌, n
 use Rattle.std.specs.List.{list_any, starts_with}
 use Rattle.std.specs.Str.{bytes_eq}
 use Rattle.json_tree.specs.Tree.{find}
-use Rattle.json_tree.specs.declared.json.Json.{Json}
-use Rattle.json_tree.specs.declared.json.Json.TheViews.{out-Json}
-use Rattle.json_tree.specs.declared.json.Json.TheOpen.{Json-F}
+use Rattle.json_tree.specs.declared.value.Json.{Json}
+use Rattle.json_tree.specs.declared.value.Json.TheViews.{out-Json}
+use Rattle.json_tree.specs.declared.value.Json.TheOpen.{Json-F}
 use Rattle.serve_names.specs.Labels.{is_label_of}
 use Rattle.resource_types.specs.declared.names.ClientKind.{ClientKind}
 use Rattle.resource_types.specs.declared.names.ClientKind.TheVariants as kind

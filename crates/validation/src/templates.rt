@@ -1,6 +1,6 @@
 //! The rules of a template.
 ghost use Rattle.std.specs.Prelude.{◌≡◌};
-ghost use Rattle.json_tree.specs.declared.json.Json.TheViews.{out-Json};
+ghost use Rattle.json_tree.specs.declared.value.Json.TheViews.{out-Json};
 ghost use Rattle.validation.specs.Rules.{first_fault, template_lines, container_lines, limit_lines, has_image, containers, is_template_name, begins_with};
 
 use crate::emptiness::is_empty;

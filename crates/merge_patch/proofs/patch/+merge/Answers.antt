@@ -1,7 +1,7 @@
 use Rattle.std.proofs.Common.{◌≡◌, ◌≤◌, ◌∙◌, true, max, ℕ, List, arith, ap, ap₂, sym, subst}
 use Rattle.serde_json.specs.Data.{Data, Members, object, depth}
 use Rattle.json_tree.specs.Tree.{data_of, depth_of, is_well, table_data}
-use Rattle.json_tree.specs.declared.json.Json.{Json}
+use Rattle.json_tree.specs.declared.value.Json.{Json}
 use Rattle.json_tree.proofs.Laws.{data_of-object}
 use Rattle.merge_patch.specs.Merge as spec
 use Rattle.merge_patch.proofs.Laws.{well-inside, well-members_of, well-merge_of, depth-merge_of, merge_of-again}

@@ -1,7 +1,7 @@
 use Rattle.std.proofs.Common.{◌∙◌, sym, ap, get_or, remove, position, ℕ, List}
 use Rattle.json_tree.specs.Tree.{data_of, table_data}
 use Rattle.json_tree.proofs.Laws.{data_of-Null}
-use Rattle.json_tree.specs.declared.json.Json.{Json}
+use Rattle.json_tree.specs.declared.value.Json.{Json}
 use Rattle.merge_patch.proofs.Tables.{names_it, taken, absent, value_of_some, value_of_none}
 use Rattle.merge_patch.proofs.taken.take.Goals as goal
 

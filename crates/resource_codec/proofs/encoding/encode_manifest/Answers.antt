@@ -1,7 +1,7 @@
 use Rattle.std.proofs.Common.{◌≡◌, ◌≤◌, ◌∙◌, ap, sym, subst, true, List, ℕ, None, Ok}
 use Rattle.std.proofs.lemmas.Result.{IfOk-weaker}
 use Rattle.json_tree.specs.Tree.{is_well_formed, depth_of}
-use Rattle.json_tree.specs.declared.json.Json.{Json}
+use Rattle.json_tree.specs.declared.value.Json.{Json}
 use Rattle.resource_types.specs.declared.manifests.Manifest.{Manifest}
 use Rattle.resource_codec.specs.Reading.{Member}
 use Rattle.resource_codec.specs.Shape.{shape}

@@ -3,7 +3,7 @@ use Rattle.std.specs.Prelude.{IfOk}
 use Rattle.std.proofs.lemmas.Result.{IfOk-weaker}
 use Rattle.serde_json.specs.Written.{compact_text}
 use Rattle.json_tree.specs.Tree.{data_of}
-use Rattle.json_tree.specs.declared.json.Json.{Json}
+use Rattle.json_tree.specs.declared.value.Json.{Json}
 use Rattle.resource_codec.specs.Written.{written}
 use Rattle.resource_codec.proofs.Again.{written_tells}
 use Rattle.resource_codec.proofs.encoding.have_same_bytes.Goals as goal

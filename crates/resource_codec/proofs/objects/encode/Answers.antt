@@ -1,7 +1,7 @@
 use Rattle.std.proofs.Common.{◌≡◌, ◌≤◌, ◌∙◌, ap, sym, subst, true, Ok}
 use Rattle.std.proofs.lemmas.Result.{IfOk-weaker}
 use Rattle.json_tree.specs.Tree.{is_well_formed, depth_of}
-use Rattle.json_tree.specs.declared.json.Json.{Json}
+use Rattle.json_tree.specs.declared.value.Json.{Json}
 use Rattle.resource_types.specs.Manifests.{manifest_of}
 use Rattle.resource_codec.specs.Shape.{shape}
 use Rattle.resource_codec.specs.Written.{kind_of}

@@ -1,5 +1,5 @@
 use Rattle.json_tree.specs.EqualLaws.{tells-equal}
-use Rattle.json_tree.specs.contracts.json.Json.{the_row}
+use Rattle.json_tree.specs.contracts.value.Json.{the_row}
 use Rattle.json_tree.proofs.json_equal.JsonPartialEq.eq.Goals as goal
 
 pub returns : goal.returns

@@ -1,11 +1,12 @@
 //! JSON values.
-ghost use Rattle.std.specs.Prelude.{◌≡◌, nat_le};
-ghost use Rattle.serde_json.specs.Data.{items_depth, members_depth};
-ghost use Rattle.json_tree.specs.Tree.{depth_of, items_data, table_data};
+ghost use Rattle.std.specs.Prelude.{◌≡◌, nat_le, IfOk};
+ghost use Rattle.serde_json.specs.Data.{items_depth, members_depth, string};
+ghost use Rattle.json_tree.specs.Tree.{data_of, depth_of, items_data, table_data};
 
 use crate::members::Members;
 use crate::seq::Seq;
 use crate::text::Text;
+use std::alloc::{AllocError, Global};
 
 /// A JSON value, with whole numbers of 64 bits alone.
 ///
@@ -30,6 +31,14 @@ pub enum Json {
 }
 
 impl Json {
+    /// A text as a value.
+    pub fn text(alloc: Global, text: &str) -> Result<Json, AllocError>
+        ensures value { IfOk result (λ json. json ≡ Json.Str text.now) }
+        ensures data { IfOk result (λ json. data_of json ≡ string text.now) }
+    {
+        Ok(Json::Str(Text::new(alloc, text)?))
+    }
+
     /// Whether arrays and objects nest at most `levels` deep. A scalar has depth 0, an array or an object one more
     /// than its deepest member, and 1 if it is empty.
     #[cycle(depth)]
