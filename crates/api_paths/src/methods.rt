@@ -1,5 +1,5 @@
 //! The methods of what paths name.
-ghost use Rattle.std.specs.Prelude.{◌≡◌, option_map, [], ◌∷◌, codes};
+ghost use Rattle.std.specs.Prelude.{◌≡◌, ◌≢◌, option_map, [], ◌∷◌, codes};
 ghost use Rattle.api_paths.specs.Paths as paths;
 ghost use Rattle.api_paths.specs.Seen.{call_seen, resource_seen};
 
@@ -25,7 +25,8 @@ pub(crate) fn call_by<'a>(method: &str, resource: &Resource<'a>) -> Option<Call<
 
 /// The methods that the resource has.
 pub(crate) fn allow_of(resource: &Resource<'_>) -> Allow
-    ensures { result ≡ paths.allow_of (resource_seen resource.now) }
+    ensures methods { result ≡ paths.allow_of (resource_seen resource.now) }
+    ensures some { result ≢ Allow.None }
 {
     match resource {
         Resource::Collection { kind, .. } => match client_kind_of(*kind) {

@@ -1,5 +1,6 @@
 //! The call of a method and a target.
-ghost use Rattle.std.specs.Prelude.{◌≡◌};
+ghost use Rattle.std.specs.Prelude.{◌≡◌, IfErr};
+ghost use Rattle.api_paths.specs.Faults.{NamesMethods};
 ghost use Rattle.api_paths.specs.Route as route;
 ghost use Rattle.api_paths.specs.Seen.{answer_seen, call_seen};
 
@@ -27,7 +28,9 @@ use resource_types::Kind;
 /// 0 without one. Each error comes exactly where its variant says, the first one that does.
 #[tactic(auto, unfolding(crate::specs::Route::call_of))]
 pub fn route_of<'a>(method: &str, target: &'a str) -> Result<Call<'a>, PathError>
-    ensures { answer_seen result ≡ route.call_of method.now target.now }
+    ensures call { answer_seen result ≡ route.call_of method.now target.now }
+    // A method that what the path names hasn't is answered with those that it has.
+    ensures methods { IfErr result NamesMethods }
 {
     let (path, query) = at_mark(target);
     let Some(resource) = resource_of(path) else {
@@ -43,7 +46,8 @@ pub fn route_of<'a>(method: &str, target: &'a str) -> Result<Call<'a>, PathError
 
 #[tactic(auto, unfolding(crate::specs::Route::asked))]
 fn asked<'a>(call: Call<'a>, query: &[u8]) -> Result<Call<'a>, PathError>
-    ensures { answer_seen result ≡ route.asked (call_seen call.entry) query.now }
+    ensures call { answer_seen result ≡ route.asked (call_seen call.entry) query.now }
+    ensures methods { IfErr result NamesMethods }
 {
     if has_dry_run(query) {
         return Err(PathError::BadQuery);
@@ -55,7 +59,8 @@ fn asked<'a>(call: Call<'a>, query: &[u8]) -> Result<Call<'a>, PathError>
 }
 
 fn listed<'a>(kind: Kind, space: &'a str, query: &[u8]) -> Result<Call<'a>, PathError>
-    ensures { answer_seen result ≡ route.listed kind space.now query.now }
+    ensures call { answer_seen result ≡ route.listed kind space.now query.now }
+    ensures methods { IfErr result NamesMethods }
 {
     if !is_good_list(query) {
         return Err(PathError::BadQuery);

@@ -1,5 +1,3 @@
 pub mod Kept
-pub mod Methods
 pub mod Unique
-pub mod Patches
 pub mod Handles

@@ -1,5 +1,5 @@
 -- What a request gets, and what it changes.
-use Rattle.std.specs.Prelude.{◌≡◌, false, ℕ, max, List, [], ◌∷◌, ◌++◌, length, Option, Some, None, Result, Ok, Err}
+use Rattle.std.specs.Prelude.{◌≡◌, ℕ, max, List, [], ◌∷◌, ◌++◌, length, Option, Some, None, Result, Ok, Err}
 use Rattle.json_tree.specs.declared.value.Json.{Json}
 use Rattle.http_session.specs.declared.message.Request.{Request}
 use Rattle.http_session.specs.declared.message.Reply.{Reply}
@@ -18,13 +18,12 @@ use Rattle.api_paths.specs.declared.calls.PathError.{PathError}
 use Rattle.api_paths.specs.Paths as paths
 use Rattle.api_paths.specs.Route.{call_of}
 use Rattle.manifest_intake.specs.Bodies.{IsBody}
+use Rattle.api_replies.specs.declared.outcome.Outcome.{Outcome}
+use Rattle.api_replies.specs.declared.refusal.Refusal.TheVariants.{NoSuchPath}
+use Rattle.api_replies.specs.Replies.{path_refused}
+use Rattle.api_replies.specs.Outcomes.{ClientPlan, Answer, only, settled}
+use Rattle.api_calls.specs.Calls.{listing, polling, reading, creating, replacing, patching, removing}
 use Rattle.api_server.specs.declared.mark.Mark.{Mark}
-use Rattle.api_server.specs.declared.outcome.Outcome.{Outcome}
-use Rattle.api_server.specs.declared.refusal.Refusal.{Refusal}
-use Rattle.api_server.specs.declared.refusal.Refusal.TheVariants.{NoSuchPath}
-use Rattle.api_server.specs.Replies.{refused, path_refused}
-use Rattle.api_server.specs.Objects.{kind_of}
-use Rattle.api_server.specs.Calls.{ClientPlan, Answer, only, standing, IsPatched, listing, polling, reading, creating, replacing, patching, removing}
 
 -- a world: all that was written, the moment, and a mark for each request that was answered
 pub record State : Type 0 where
@@ -34,19 +33,9 @@ pub record State : Type 0 where
 
 -- ---- the reply
 
--- a refusal is a reply, and writes nothing
-abbrev pub settled : Answer → Outcome
-settled (Ok outcome) = outcome
-settled (Err refusal) = only (refused refusal)
-
 -- a call whose body is read
 abbrev pub AnswersBody : List ℕ → (Option Json → Answer) → Outcome → Type 0
 AnswersBody bytes answer outcome = (body : Option Json) × IsBody bytes body × (outcome ≡ settled (answer body))
-
--- a patch: its body is read, and merged into the document of what stands
-abbrev pub AnswersPatch : List ℕ → Option Object → (Option Json → Json → Answer) → Outcome → Type 0
-AnswersPatch bytes old answer outcome =
-    (body : Option Json) × (patched : Json) × IsBody bytes body × IsPatched old body patched × (outcome ≡ settled (answer body patched))
 
 -- what a call comes to; one that isn't built yet is none of a path that exists
 abbrev pub AnswersCall : Log → ℕ → List ℕ → paths.Call → Outcome → Type 0
@@ -55,8 +44,7 @@ AnswersCall journal moment bytes (paths.poll kind space after) outcome = outcome
 AnswersCall journal moment bytes (paths.read kind space name) outcome = outcome ≡ settled (reading journal kind space name)
 AnswersCall journal moment bytes (paths.create kind space) outcome = AnswersBody bytes (creating journal moment kind space) outcome
 AnswersCall journal moment bytes (paths.replace kind space name) outcome = AnswersBody bytes (replacing journal moment kind space name) outcome
-AnswersCall journal moment bytes (paths.patch kind space name) outcome =
-    AnswersPatch bytes (standing journal (kind_of kind) space name) (patching journal moment kind space name) outcome
+AnswersCall journal moment bytes (paths.patch kind space name) outcome = AnswersBody bytes (patching journal moment kind space name) outcome
 AnswersCall journal moment bytes (paths.remove kind space name) outcome = outcome ≡ settled (removing journal kind space name)
 AnswersCall journal moment bytes other outcome = outcome ≡ settled (Err NoSuchPath)
 
@@ -104,10 +92,11 @@ pub record AnswersAt (old new : Log) (before now : List Mark) (moment : ℕ) (re
   pub written : new ≡ journal_after old moment outcome.plan
   pub marked : now ≡ before ++ mark_at old moment ∷ []
 
--- a request: its reply and its write are those over the journal at its mark
+-- a request: its reply and its write are those over the journal at its mark, and the journal, the moment and the request give no other
 pub record Asks (old : State) (now : Option ℕ) (request : Request) (reply : Reply) (new : State) : Type 0 where
   pub outcome : Outcome
   pub answers : Answers old.journal (later old.moment now) request outcome
+  pub only : (other : Outcome) → Answers old.journal (later old.moment now) request other → other ≡ outcome
   pub replies : reply ≡ outcome.reply
   pub changes : new ≡ after_request old (later old.moment now) outcome.plan
 

@@ -1,7 +1,2 @@
-pub mod Refusals
-pub mod Replies
-pub mod Kept
-pub mod Objects
-pub mod Calls
+pub mod World
 pub mod Ask
-pub mod Stops

@@ -2,20 +2,13 @@
 ghost use Rattle.std.specs.Prelude.{◌≡◌, ◌<◌, ◌-◌, ◌^◌, Err, length, IfOk};
 ghost use Rattle.api_paths.specs.Seen.{call_seen};
 ghost use Rattle.api_server.specs.Ask as spec;
-ghost use Rattle.api_server.specs.Calls as calls;
-ghost use Rattle.api_server.specs.Objects.{kind_of};
-ghost use Rattle.api_server.specs.Kept.{AreKept};
-ghost use Rattle.api_server.specs.Stops.{IsFit};
+ghost use Rattle.api_calls.specs.Calls as calls;
+ghost use Rattle.api_replies.specs.Kept.{AreKept};
+ghost use Rattle.api_replies.specs.Outcomes.{settled, IsFit};
 
-use crate::creating::creating;
-use crate::outcome::{Outcome, settle};
-use crate::patching::patching;
-use crate::reads::{listing, polling, reading};
-use crate::refusal::Refusal;
-use crate::removing::removing;
-use crate::replacing::replacing;
-use crate::replies::{path_refused, refused};
+use api_calls::{creating, listing, patching, polling, reading, removing, replacing};
 use api_paths::{Call, route_of};
+use api_replies::{Outcome, Refusal, path_refused, refused, settle};
 use http_session::Request;
 use manifest_intake::read_body;
 use resource_types::{ClientKind, Object};
@@ -71,8 +64,7 @@ fn patch(
 ) -> Result<Outcome, AllocError>
     requires kept { AreKept store.now.entries }
     requires room { length store.now.entries < 2 ^ 64 - 1 }
-    ensures answers { IfOk result (spec.AnswersPatch bytes.now (calls.standing store.now.entries (kind_of kind) space.now name.now)
-        (calls.patching store.now.entries moment kind space.now name.now)) }
+    ensures answers { IfOk result (spec.AnswersBody bytes.now (calls.patching store.now.entries moment kind space.now name.now)) }
     ensures fits { IfOk result IsFit }
 {
     let body = read_body(alloc, bytes)?;
@@ -84,7 +76,7 @@ fn patch(
 
 /// What a call comes to that isn't built yet.
 fn unbuilt(alloc: Global) -> Result<Outcome, AllocError>
-    ensures answers { IfOk result (λ o. o ≡ spec.settled (Err Refusal.NoSuchPath)) }
+    ensures answers { IfOk result (λ o. o ≡ settled (Err Refusal.NoSuchPath)) }
     ensures fits { IfOk result IsFit }
 {
     Ok(Outcome::only(refused(alloc, &Refusal::NoSuchPath)?))
@@ -126,7 +118,7 @@ fn answer_call(
 }
 
 /// The reply to a request over the store at a moment, and the write that it makes, if any.
-#[tactic(auto, unfolding(crate::specs::Ask::Answers), using(crate::proofs::Methods::methods_named))]
+#[tactic(auto, unfolding(crate::specs::Ask::Answers))]
 pub(crate) fn answer(
     alloc: Global,
     store: &Store<Object>,

@@ -6,19 +6,7 @@
 #![tactic(auto)]
 
 mod answers;
-mod bodies;
-mod creating;
 mod mark;
-mod objects;
-mod outcome;
-mod patching;
-mod puts;
-mod reads;
-mod refusal;
-mod removing;
-mod replacing;
-mod replies;
-mod standing;
 mod world;
 
 pub use mark::Mark;

@@ -3,8 +3,8 @@ ghost use Rattle.std.specs.Prelude.{◌≡◌, ◌≤◌, ◌<◌, ◌-◌, ◌^
 ghost use Rattle.http_session.specs.Reply.{IsReply};
 ghost use Rattle.std.specs.Option.{ForSome};
 ghost use Rattle.api_server.specs.Ask as spec;
-ghost use Rattle.api_server.specs.Kept.{AreKept};
-ghost use Rattle.api_server.specs.Stops.{CanBeMade};
+ghost use Rattle.api_replies.specs.Kept.{AreKept};
+ghost use Rattle.api_replies.specs.Outcomes.{CanBeMade};
 
 use crate::answers::answer;
 use crate::mark::Mark;
@@ -30,7 +30,7 @@ pub struct World {
 impl Model for World {
     ghost use Rattle.std.specs.Prelude.{◌≤◌};
     ghost use Rattle.api_server.specs.Ask.{State};
-    ghost use Rattle.api_server.specs.Kept.{IsKeptWorld};
+    ghost use Rattle.api_server.specs.World.{IsKept};
     ghost use Rattle.json_tree.specs.contracts.value.Json as json;
     ghost use Rattle.std.specs.Coded.{codes};
 
@@ -40,7 +40,7 @@ impl Model for World {
 
     ghost view = { λ w. record { journal = w.store.entries; moment = w.moment; marks = w.marks } };
 
-    ghost invariant = { λ w. IsKeptWorld w.store.entries w.moment };
+    ghost invariant = { λ w. IsKept w.store.entries w.moment };
 }
 
 /// Makes a client's write, if there is one.

@@ -2,34 +2,13 @@
 use Rattle.std.proofs.Common.{◌≡◌, ℕ, List, [], ◌∷◌, map, refl, sym, ap, ap₂, subst, ◌∙◌}
 use Rattle.serde_json.specs.Data.{Num, Data, Items, no_items, item, Members, no_members, member, null, boolean, number, unsigned, negative, float, string, array, object}
 use Rattle.serde_json.specs.View.{items_of}
+use Rattle.json_tree.specs.Back.{json_of, list_of, pairs_of}
 use Rattle.json_tree.specs.Tree.{data_of, data_step, members_data}
 use Rattle.json_tree.specs.declared.value.Json.{Json, Null, Bool, Int, Nat, Str, Arr, Obj}
 use Rattle.json_tree.specs.declared.value.Json.TheOpen.{Json-F}
 use Rattle.json_tree.specs.declared.value.Json.TheViews.{roll-Json}
 use Rattle.json_tree.specs.declared.value.Json.TheVariants.{rolls-Null, rolls-Bool, rolls-Int, rolls-Nat, rolls-Str, rolls-Arr, rolls-Obj}
 use Rattle.json_tree.specs.declared.value.Json.TheFolds.{fold-roll-Json, ind-Json, map-Json}
-
-abbrev of_num : Num → Json
-of_num (unsigned n) = Nat n
-of_num (negative z) = Int z
-of_num (float x) = Null
-
-abbrev mutual
-  json_of : Data → Json
-  json_of null = Null
-  json_of (boolean b) = Bool b
-  json_of (number n) = of_num n
-  json_of (string s) = Str s
-  json_of (array ds) = Arr (list_of ds)
-  json_of (object ms) = Obj (record { entries = pairs_of ms })
-
-  list_of : Items → List Json
-  list_of no_items = []
-  list_of (item d ds) = json_of d ∷ list_of ds
-
-  pairs_of : Members → List (List ℕ × Json)
-  pairs_of no_members = []
-  pairs_of (member k d ms) = (k, json_of d) ∷ pairs_of ms
 
 abbrev IsBack : Json → Type 0
 IsBack j = json_of (data_of j) ≡ j
@@ -61,3 +40,7 @@ json_of-data_of = ind-Json IsBack (λ x y is.
 -- equal data is of equal values
 pub data_tells : (j k : Json) → data_of j ≡ data_of k → j ≡ k
 data_tells j k e = sym (json_of-data_of j) ∙ ap json_of e ∙ json_of-data_of k
+
+-- a value is the one that its data is of
+pub value_by : (j : Json) (d : Data) → data_of j ≡ d → j ≡ json_of d
+value_by j d e = sym (json_of-data_of j) ∙ ap json_of e

@@ -4,7 +4,7 @@ use Rattle.std.specs.Str.{bytes_eq}
 use Rattle.json_tree.specs.declared.value.Json.{Json}
 use Rattle.json_tree.specs.declared.value.Json.TheViews.{out-Json}
 use Rattle.serve_names.specs.Labels.{is_label_of}
-use Rattle.resource_types.specs.Manifests.{api_version}
+use Rattle.resource_types.specs.Manifests.{api_version, kind_text}
 use Rattle.resource_types.specs.declared.names.ClientKind.{ClientKind}
 use Rattle.resource_types.specs.declared.names.ClientKind.TheVariants as kind
 use Rattle.resource_types.specs.declared.manifests.Manifest.{Manifest}
@@ -12,7 +12,7 @@ use Rattle.resource_codec.specs.declared.fields.Field.{Field}
 use Rattle.resource_codec.specs.declared.fields.Field.TheVariants as field
 use Rattle.resource_codec.specs.Reading.{◌>>=◌, object, text, under}
 use Rattle.resource_codec.specs.Shape.{shape}
-use Rattle.resource_codec.specs.Written.{kind_of, kind_text}
+use Rattle.resource_codec.specs.Written.{kind_of}
 use Rattle.resource_codec.specs.Sound.{RestOfSpecFits, ManifestRises}
 use Rattle.validation.specs.Defaults.{is_empty, defaults_of}
 use Rattle.validation.specs.Rules.{Verdict, first_fault, rules_of}

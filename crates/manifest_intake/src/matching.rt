@@ -1,6 +1,5 @@
 //! What a manifest must match.
 ghost use Rattle.std.specs.Prelude.{◌≡◌};
-ghost use Rattle.resource_codec.specs.Written.{kind_text};
 ghost use Rattle.manifest_intake.specs.Intake as spec;
 ghost use Rattle.manifest_intake.specs.Seen.{purpose_seen};
 
@@ -36,16 +35,6 @@ fn keep(holds: bool, refusal: ManifestRefusal) -> Result<(), ManifestRefusal>
     ensures { result ≡ spec.keeps holds refusal }
 {
     if holds { Ok(()) } else { Err(refusal) }
-}
-
-fn kind_text(kind: ClientKind) -> &'static str
-    ensures { result.now ≡ kind_text kind }
-{
-    match kind {
-        ClientKind::Service => "Service",
-        ClientKind::Configuration => "Configuration",
-        ClientKind::Route => "Route",
-    }
 }
 
 fn fits_namespace(purpose: Purpose<'_>, given: &Text) -> bool
@@ -87,7 +76,7 @@ pub(crate) fn match_parts(
 {
     let is_api = manifest.api.is(api_version());
     keep(is_api, ManifestRefusal::Mismatch(Part::ApiVersion))?;
-    let is_kind = manifest.kind.is(kind_text(kind));
+    let is_kind = manifest.kind.is(kind.as_str());
     keep(is_kind, ManifestRefusal::Mismatch(Part::Kind))?;
     let is_space = fits_namespace(purpose, &manifest.namespace);
     keep(is_space, ManifestRefusal::Mismatch(Part::Namespace))?;

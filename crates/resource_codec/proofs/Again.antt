@@ -21,7 +21,8 @@ use Rattle.resource_codec.specs.declared.fields.Field.TheVariants as field
 use Rattle.resource_codec.specs.declared.fields.TargetField.TheVariants as part
 use Rattle.resource_codec.specs.Reading.{◌>>=◌, Member, layer, under, object, text, optional_object, optional_text, optional_number, optional_truth, optional_array, optional_texts, texts_in, may_be_text, named_text, is_rest, is_null}
 use Rattle.resource_codec.specs.Shape.{template_in, target_in, targets_in, traffic_in, spec_in, shape}
-use Rattle.resource_codec.specs.Written.{Field, put_field, put_fields, object_of, text_field, object_field, array_field, number_field, truth_field, text_member, texts_field, pod_fields, pod_members, template_metadata_fields, template_metadata, template_fields, template_members, target_fields, target_members, target_json, spec_fields, spec_members, Metadata, metadata_fields, metadata_members, Document, document_fields, document_members, document_json, manifest_metadata, manifest_document, written, kind_of, kind_text, HasNoUrls, HasPlainRest, IsPlain, IsRegular}
+use Rattle.resource_types.specs.Manifests.{kind_text}
+use Rattle.resource_codec.specs.Written.{Field, put_field, put_fields, object_of, text_field, object_field, array_field, number_field, truth_field, text_member, texts_field, pod_fields, pod_members, template_metadata_fields, template_metadata, template_fields, template_members, target_fields, target_members, target_json, spec_fields, spec_members, Metadata, metadata_fields, metadata_members, Document, document_fields, document_members, document_json, manifest_metadata, manifest_document, written, kind_of, HasNoUrls, HasPlainRest, IsPlain, IsRegular}
 use Rattle.resource_codec.proofs.PutLemmas.{or_else, looked, find_fields, kept_field}
 use Rattle.resource_codec.proofs.Texts.{out_str}
 

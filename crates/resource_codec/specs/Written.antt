@@ -12,6 +12,7 @@ use Rattle.resource_types.specs.declared.specification.Target.{Target}
 use Rattle.resource_types.specs.declared.manifests.Manifest.{Manifest}
 use Rattle.resource_types.specs.declared.manifests.ManifestSpec.{ManifestSpec}
 use Rattle.resource_types.specs.declared.manifests.ManifestSpec.TheVariants as spec
+use Rattle.resource_types.specs.Manifests.{kind_text}
 use Rattle.resource_codec.specs.Reading.{Member, is_rest}
 
 -- a name, and what stands there if anything does
@@ -201,12 +202,6 @@ abbrev pub kind_of : ManifestSpec → ClientKind
 kind_of (spec.Service template traffic) = kind.Service
 kind_of (spec.Configuration template) = kind.Configuration
 kind_of (spec.Route traffic) = kind.Route
-
--- the word of a kind
-abbrev pub kind_text : ClientKind → List ℕ
-kind_text kind.Service = codes "Service"
-kind_text kind.Configuration = codes "Configuration"
-kind_text kind.Route = codes "Route"
 
 -- no target has an address
 abbrev pub HasNoUrls : List Target → Type 0

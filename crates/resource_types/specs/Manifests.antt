@@ -3,6 +3,8 @@ use Rattle.std.specs.Prelude.{ℕ, List, [], codes}
 use Rattle.std.specs.Fmt.{decimal}
 use Rattle.resource_types.specs.declared.names.Kind.{Kind}
 use Rattle.resource_types.specs.declared.names.Kind.TheVariants as kind
+use Rattle.resource_types.specs.declared.names.ClientKind.{ClientKind}
+use Rattle.resource_types.specs.declared.names.ClientKind.TheVariants as client
 use Rattle.resource_types.specs.declared.objects.Body.{Body}
 use Rattle.resource_types.specs.declared.objects.Body.TheVariants.{Service, Configuration, Revision, Route, Health, Table}
 use Rattle.resource_types.specs.declared.objects.Object.{Object}
@@ -22,6 +24,18 @@ kind_word kind.Revision = codes "Revision"
 kind_word kind.Route = codes "Route"
 kind_word kind.Health = codes "Health"
 kind_word kind.Table = codes "Table"
+
+-- the kind of objects that clients write
+abbrev pub object_kind : ClientKind → Kind
+object_kind client.Service = kind.Service
+object_kind client.Configuration = kind.Configuration
+object_kind client.Route = kind.Route
+
+-- the word of a kind that clients write
+abbrev pub kind_text : ClientKind → List ℕ
+kind_text client.Service = codes "Service"
+kind_text client.Configuration = codes "Configuration"
+kind_text client.Route = codes "Route"
 
 -- what a client would write as the spec of the object; no targets of a kind that clients do not write
 abbrev pub manifest_spec : Body → ManifestSpec

@@ -1,6 +1,6 @@
 //! Kinds, names, and what is found by them.
 ghost use Rattle.std.specs.Prelude.{◌≡◌};
-ghost use Rattle.resource_types.specs.Manifests.{kind_word};
+ghost use Rattle.resource_types.specs.Manifests.{kind_word, kind_text, object_kind};
 
 use json_tree::{Alike, Copied, Text};
 use std::alloc::{AllocError, Global};
@@ -100,6 +100,30 @@ impl Kind {
             Kind::Route => "Route",
             Kind::Health => "Health",
             Kind::Table => "Table",
+        }
+    }
+}
+
+impl ClientKind {
+    /// The kind of the objects.
+    pub fn kind(self) -> Kind
+        ensures { result ≡ object_kind self }
+    {
+        match self {
+            ClientKind::Service => Kind::Service,
+            ClientKind::Configuration => Kind::Configuration,
+            ClientKind::Route => Kind::Route,
+        }
+    }
+
+    /// The word of the kind, such as `Service`.
+    pub fn as_str(self) -> &'static str
+        ensures { result.now ≡ kind_text self }
+    {
+        match self {
+            ClientKind::Service => "Service",
+            ClientKind::Configuration => "Configuration",
+            ClientKind::Route => "Route",
         }
     }
 }

@@ -1,5 +1,5 @@
 use Rattle.std.proofs.Common.{sym, subst}
-use Rattle.api_server.specs.Kept.{AreKept}
+use Rattle.api_replies.specs.Kept.{AreKept}
 use Rattle.api_server.proofs.world.answer_at.Goals as goal
 
 -- src/world.rt:72:45

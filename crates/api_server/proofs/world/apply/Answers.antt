@@ -1,5 +1,5 @@
 use Rattle.std.proofs.Common.{sym, subst}
-use Rattle.api_server.specs.Kept.{AreKept}
+use Rattle.api_replies.specs.Kept.{AreKept}
 use Rattle.api_server.proofs.Kept.{written_kept}
 use Rattle.api_server.proofs.world.apply.Goals as goal
 

@@ -1,0 +1,120 @@
+//! Patching an object (RFC 7396).
+ghost use Rattle.std.specs.Prelude.{◌≡◌, ◌<◌, ◌-◌, ◌^◌, length, IfOk};
+ghost use Rattle.std.specs.Option.{ForSome};
+ghost use Rattle.api_calls.specs.Calls as spec;
+ghost use Rattle.api_replies.specs.Kept.{AreKept, IsReadable, IsPatchable};
+ghost use Rattle.api_replies.specs.Outcomes.{Comes, IsFit};
+
+use crate::replace::agreeing;
+use api_objects::{Place, is_version_of, readable, taken, there};
+use api_replies::{Outcome, Stop};
+use json_tree::{Json, Text};
+use manifest_intake::Purpose;
+use merge_patch::merge;
+use resource_codec::encode_manifest;
+use resource_types::{ClientKind, Object, manifest_of};
+use std::alloc::{AllocError, Global};
+use version_store::store::Store;
+
+/// The document of an object, which a patch changes: its manifest without a version.
+fn document_of(alloc: Global, old: &Object) -> Result<Json, AllocError>
+    requires { IsPatchable old.now }
+    ensures value { IfOk result (λ j. j ≡ spec.document_of old.now) }
+    ensures readable { IfOk result IsReadable }
+{
+    let mut manifest = manifest_of(alloc, old)?;
+    manifest.version = Text::new(alloc, "")?;
+    encode_manifest(alloc, &manifest)
+}
+
+/// The document of an object, changed as a patch says.
+fn patched(alloc: Global, old: &Object, patch: &Json) -> Result<Json, AllocError>
+    requires old { IsPatchable old.now }
+    requires patch { IsReadable patch.now }
+    ensures value { IfOk result (λ j. j ≡ spec.patched_document old.now patch.now) }
+    ensures readable { IfOk result IsReadable }
+{
+    let document = document_of(alloc, old)?;
+    merge(alloc, document, patch)
+}
+
+/// Whether a version, where it is given, is that of the object.
+fn is_absent_or_fresh(alloc: Global, old: &Object, given: &Text) -> Result<bool, AllocError>
+    ensures { IfOk result (λ is. is ≡ spec.is_absent_or_fresh old.now given.now) }
+{
+    Ok(given.is_empty() || is_version_of(alloc, old, given)?)
+}
+
+/// Puts the object that a patched document asks for in place of the one that stands.
+#[tactic(auto, unfolding(crate::specs::Calls::patching_over))]
+fn patch_over(
+    alloc: Global,
+    store: &Store<Object>,
+    moment: u64,
+    place: Place<'_>,
+    old: &Object,
+    patched: &Json,
+) -> Result<Outcome, Stop>
+    requires room { length store.now.entries < 2 ^ 64 - 1 }
+    requires old { IsPatchable old.now }
+    requires patched { IsReadable patched.now }
+    ensures answer { Comes result (spec.patching_over store.now.entries moment place.entry.kind place.entry.space.now place.entry.name.now old.now patched.now) }
+    ensures fits { IfOk result IsFit }
+{
+    let purpose = Purpose::Replace {
+        space: place.space.as_str(),
+        name: place.name.as_str(),
+    };
+    let manifest = taken(alloc, purpose, place.kind, patched)?;
+    let is_fresh = is_absent_or_fresh(alloc, old, &manifest.version)?;
+    agreeing(alloc, store, moment, place, old, is_fresh, manifest)
+}
+
+/// Changes the object that stands as a patch says.
+#[tactic(auto, using(crate::proofs::Kept::patchable), unfolding(crate::specs::Calls::patching_with))]
+fn patch_standing(
+    alloc: Global,
+    store: &Store<Object>,
+    moment: u64,
+    place: Place<'_>,
+    patch: &Json,
+) -> Result<Outcome, Stop>
+    requires kept { AreKept store.now.entries }
+    requires room { length store.now.entries < 2 ^ 64 - 1 }
+    requires patch { IsReadable patch.now }
+    ensures answer { Comes result (spec.patching_with store.now.entries moment place.entry.kind place.entry.space.now place.entry.name.now patch.now) }
+    ensures fits { IfOk result IsFit }
+{
+    let of_kind = place.kind.kind();
+    let old = there(alloc, store, of_kind, place.space, place.name)?;
+    let document = patched(alloc, old, patch)?;
+    patch_over(alloc, store, moment, place, old, &document)
+}
+
+/// Changes the object that stands as a body says.
+#[tactic(auto, unfolding(crate::specs::Calls::patching))]
+pub fn patching(
+    alloc: Global,
+    store: &Store<Object>,
+    moment: u64,
+    kind: ClientKind,
+    space: &str,
+    name: &str,
+    body: Option<Json>,
+) -> Result<Outcome, Stop>
+    requires kept { AreKept store.now.entries }
+    requires room { length store.now.entries < 2 ^ 64 - 1 }
+    requires body { ForSome body IsReadable }
+    ensures answer { Comes result (spec.patching store.now.entries moment kind space.now name.now body) }
+    ensures fits { IfOk result IsFit }
+{
+    let patch = readable(body)?;
+    let space = Text::new(alloc, space)?;
+    let name = Text::new(alloc, name)?;
+    let place = Place {
+        kind,
+        space: &space,
+        name: &name,
+    };
+    patch_standing(alloc, store, moment, place, &patch)
+}

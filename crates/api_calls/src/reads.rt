@@ -1,0 +1,82 @@
+//! Lists, polls, and single objects.
+ghost use Rattle.std.specs.Prelude.{◌≡◌, length, IfOk};
+ghost use Rattle.api_calls.specs.Calls as spec;
+ghost use Rattle.api_replies.specs.Kept.{AreKept};
+ghost use Rattle.api_replies.specs.Outcomes.{Comes, IsFit};
+
+use api_objects::there;
+use api_replies::{Outcome, Refusal, Stop, keep, reply_of, shown};
+use json_tree::Text;
+use resource_codec::{list_of, poll_json};
+use resource_types::{Kind, Object};
+use std::alloc::Global;
+use version_store::store::Store;
+
+/// Whether the kind has paths of its own.
+fn is_served(kind: Kind) -> bool
+    ensures { result ≡ spec.is_served kind }
+{
+    match kind {
+        Kind::Health | Kind::Table => false,
+        _ => true,
+    }
+}
+
+/// The list of a kind in a namespace.
+#[tactic(auto, unfolding(crate::specs::Calls::listing), using(crate::proofs::Kept::shown_all))]
+pub fn listing(
+    alloc: Global,
+    store: &Store<Object>,
+    kind: Kind,
+    space: &str,
+) -> Result<Outcome, Stop>
+    requires { AreKept store.now.entries }
+    ensures answer { Comes result (spec.listing store.now.entries kind space.now) }
+    ensures fits { IfOk result IsFit }
+{
+    keep(is_served(kind), Refusal::NoSuchPath)?;
+    let space = Text::new(alloc, space)?;
+    let list = list_of(alloc, store, kind, Some(&space))?;
+    Ok(Outcome::only(reply_of(alloc, 200, &list)?))
+}
+
+/// What changed among the objects of a kind in a namespace after a version.
+#[tactic(auto, unfolding(crate::specs::Calls::polling), using(crate::proofs::Kept::shown_all))]
+pub fn polling(
+    alloc: Global,
+    store: &Store<Object>,
+    kind: Kind,
+    space: &str,
+    after: u64,
+) -> Result<Outcome, Stop>
+    requires { AreKept store.now.entries }
+    ensures answer { Comes result (spec.polling store.now.entries kind space.now after) }
+    ensures fits { IfOk result IsFit }
+{
+    keep(is_served(kind), Refusal::NoSuchPath)?;
+    let newest = store.version();
+    keep(after <= newest, Refusal::BeyondNewest { after, newest })?;
+    let space = Text::new(alloc, space)?;
+    let poll = poll_json(alloc, store, kind, Some(&space), after)?;
+    Ok(Outcome::only(reply_of(alloc, 200, &poll)?))
+}
+
+/// One object.
+#[tactic(auto, unfolding(crate::specs::Calls::reading))]
+pub fn reading(
+    alloc: Global,
+    store: &Store<Object>,
+    kind: Kind,
+    space: &str,
+    name: &str,
+) -> Result<Outcome, Stop>
+    requires { AreKept store.now.entries }
+    ensures answer { Comes result (spec.reading store.now.entries kind space.now name.now) }
+    ensures fits { IfOk result IsFit }
+{
+    keep(is_served(kind), Refusal::NoSuchPath)?;
+    let space = Text::new(alloc, space)?;
+    let name = Text::new(alloc, name)?;
+    let object = there(alloc, store, kind, &space, &name)?;
+    Ok(Outcome::only(shown(alloc, 200, object)?))
+}

@@ -1,0 +1,62 @@
+//! Removing an object.
+ghost use Rattle.std.specs.Prelude.{◌≡◌, IfOk};
+ghost use Rattle.api_calls.specs.Calls as spec;
+ghost use Rattle.api_replies.specs.Kept.{AreKept};
+ghost use Rattle.api_replies.specs.Outcomes.{Comes, IsFit};
+
+use api_objects::there;
+use api_replies::{Outcome, Refusal, Stop, keep, removed};
+use json_tree::{Copied, Text};
+use resource_types::{Kind, Object};
+use std::alloc::{AllocError, Global};
+use version_store::store::Store;
+use version_store::write::{Change, Expect, Plan};
+
+/// Whether clients remove objects of the kind.
+fn is_removable(kind: Kind) -> bool
+    ensures { result ≡ spec.is_removable kind }
+{
+    match kind {
+        Kind::Service | Kind::Configuration | Kind::Route => true,
+        _ => false,
+    }
+}
+
+/// The removal of an object, as it stands.
+#[tactic(auto, unfolding(crate::specs::Calls::removes))]
+fn removal_of(alloc: Global, object: &Object) -> Result<Outcome, AllocError>
+    ensures value { IfOk result (λ o. o ≡ spec.removes object.now) }
+    ensures fits { IfOk result IsFit }
+{
+    let reply = removed(alloc)?;
+    let plan = Plan {
+        key: object.key.copy(alloc)?,
+        expect: Expect::At(object.meta.stamp.version),
+        guarded: false,
+        change: Change::Remove,
+    };
+    Ok(Outcome {
+        reply,
+        plan: Some(plan),
+    })
+}
+
+/// Removes the object of a namespace and a name.
+#[tactic(auto, unfolding(crate::specs::Calls::removing))]
+pub fn removing(
+    alloc: Global,
+    store: &Store<Object>,
+    kind: Kind,
+    space: &str,
+    name: &str,
+) -> Result<Outcome, Stop>
+    requires { AreKept store.now.entries }
+    ensures answer { Comes result (spec.removing store.now.entries kind space.now name.now) }
+    ensures fits { IfOk result IsFit }
+{
+    keep(is_removable(kind), Refusal::NoSuchPath)?;
+    let space = Text::new(alloc, space)?;
+    let name = Text::new(alloc, name)?;
+    let object = there(alloc, store, kind, &space, &name)?;
+    Ok(removal_of(alloc, object)?)
+}

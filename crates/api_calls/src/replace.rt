@@ -1,0 +1,95 @@
+//! Replacing an object.
+ghost use Rattle.std.specs.Prelude.{◌≡◌, ◌<◌, ◌-◌, ◌^◌, length, IfOk};
+ghost use Rattle.std.specs.Option.{ForSome};
+ghost use Rattle.api_calls.specs.Calls as spec;
+ghost use Rattle.api_replies.specs.Kept.{AreKept, IsKept, IsReadable, CanBePut};
+ghost use Rattle.api_replies.specs.Outcomes.{Comes, IsFit};
+
+use crate::asked::manifest_in;
+use api_objects::{Place, agree, changed_well, is_version_of, replace, there};
+use api_replies::{Outcome, Refusal, Stop, keep};
+use json_tree::{Json, Text};
+use manifest_intake::Purpose;
+use resource_types::{ClientKind, Manifest, Object};
+use std::alloc::Global;
+use version_store::store::Store;
+
+/// Puts a manifest over the object that stands, where the version agrees and no template changes under its name.
+#[tactic(auto, unfolding(crate::specs::Calls::agreeing))]
+pub fn agreeing(
+    alloc: Global,
+    store: &Store<Object>,
+    moment: u64,
+    place: Place<'_>,
+    old: &Object,
+    is_fresh: bool,
+    manifest: Manifest,
+) -> Result<Outcome, Stop>
+    requires room { length store.now.entries < 2 ^ 64 - 1 }
+    requires old { IsKept old.now }
+    requires kept { CanBePut place.kind manifest }
+    ensures answer { Comes result (spec.agreeing store.now.entries moment place.entry.kind place.entry.space.now place.entry.name.now
+        old.now is_fresh manifest) }
+    ensures fits { IfOk result IsFit }
+{
+    agree(alloc, is_fresh, place.kind.kind(), old)?;
+    changed_well(old, &manifest)?;
+    Ok(replace(alloc, store, moment, place, old, manifest)?)
+}
+
+/// Puts a manifest in place of the object that stands.
+#[tactic(auto, unfolding(crate::specs::Calls::replacing_with))]
+fn replace_standing(
+    alloc: Global,
+    store: &Store<Object>,
+    moment: u64,
+    place: Place<'_>,
+    manifest: Manifest,
+) -> Result<Outcome, Stop>
+    requires entries { AreKept store.now.entries }
+    requires room { length store.now.entries < 2 ^ 64 - 1 }
+    requires kept { CanBePut place.kind manifest }
+    ensures answer { Comes result (spec.replacing_with store.now.entries moment place.entry.kind place.entry.space.now place.entry.name.now
+        manifest) }
+    ensures fits { IfOk result IsFit }
+{
+    let of_kind = place.kind.kind();
+    let old = there(alloc, store, of_kind, place.space, place.name)?;
+    let is_fresh = is_version_of(alloc, old, &manifest.version)?;
+    agreeing(alloc, store, moment, place, old, is_fresh, manifest)
+}
+
+fn gives_version(manifest: &Manifest) -> bool
+    ensures { result ≡ spec.gives_version manifest.now }
+{
+    !manifest.version.is_empty()
+}
+
+/// Puts the object that a body asks for in place of the one that stands.
+#[tactic(auto, unfolding(crate::specs::Calls::replacing))]
+pub fn replacing(
+    alloc: Global,
+    store: &Store<Object>,
+    moment: u64,
+    kind: ClientKind,
+    space: &str,
+    name: &str,
+    body: Option<Json>,
+) -> Result<Outcome, Stop>
+    requires kept { AreKept store.now.entries }
+    requires room { length store.now.entries < 2 ^ 64 - 1 }
+    requires body { ForSome body IsReadable }
+    ensures answer { Comes result (spec.replacing store.now.entries moment kind space.now name.now body) }
+    ensures fits { IfOk result IsFit }
+{
+    let manifest = manifest_in(alloc, Purpose::Replace { space, name }, kind, body)?;
+    keep(gives_version(&manifest), Refusal::VersionMissing)?;
+    let space = Text::new(alloc, space)?;
+    let name = Text::new(alloc, name)?;
+    let place = Place {
+        kind,
+        space: &space,
+        name: &name,
+    };
+    replace_standing(alloc, store, moment, place, manifest)
+}

@@ -1,0 +1,112 @@
+//! The object that a manifest asks for.
+ghost use Rattle.std.specs.Prelude.{◌≡◌, IfOk};
+ghost use Rattle.std.specs.Option.{option_copied};
+ghost use Rattle.resource_types.specs.Objects.{no_status, status_of};
+ghost use Rattle.resource_types.specs.Lookups.{key_of};
+ghost use Rattle.api_objects.specs.Objects as spec;
+
+use json_tree::{Copied, Seq, Text};
+use resource_types::{
+    Body, Key, Kind, Manifest, ManifestSpec, Meta, Name, Object, ObjectStatus, Owner,
+};
+use std::alloc::{AllocError, Global};
+use version_store::item::Stamp;
+
+/// The status of an object that no controller has looked at.
+fn no_status(alloc: Global) -> Result<ObjectStatus, AllocError>
+    ensures { IfOk result (λ s. s ≡ no_status) }
+{
+    Ok(ObjectStatus {
+        observed: 0,
+        created: Text::new(alloc, "")?,
+        ready: Text::new(alloc, "")?,
+        url: Text::new(alloc, "")?,
+        traffic: Seq::new(alloc),
+        conditions: Seq::new(alloc),
+    })
+}
+
+fn status_of(alloc: Global, object: &Object) -> Result<ObjectStatus, AllocError>
+    ensures { IfOk result (λ s. s ≡ status_of object.now.body) }
+{
+    match &object.body {
+        Body::Service { status, .. } => status.copy(alloc),
+        Body::Configuration { status, .. } => status.copy(alloc),
+        Body::Revision { status, .. } => status.copy(alloc),
+        Body::Route { status, .. } => status.copy(alloc),
+        _ => no_status(alloc),
+    }
+}
+
+fn status_over(alloc: Global, old: Option<&Object>) -> Result<ObjectStatus, AllocError>
+    ensures { IfOk result (λ s. s ≡ spec.status_over (option_copied old.entry)) }
+{
+    match old {
+        Some(object) => status_of(alloc, object),
+        None => no_status(alloc),
+    }
+}
+
+fn owner_of(alloc: Global, old: Option<&Object>) -> Result<Option<Owner>, AllocError>
+    ensures { IfOk result (λ o. o ≡ spec.owner_of (option_copied old.entry)) }
+{
+    match old {
+        Some(object) => object.meta.owner.copy(alloc),
+        None => Ok(None),
+    }
+}
+
+fn body_of(asked: ManifestSpec, status: ObjectStatus) -> Body
+    ensures { result ≡ spec.body_of asked status }
+{
+    match asked {
+        ManifestSpec::Service { template, traffic } => Body::Service {
+            template,
+            traffic,
+            status,
+        },
+        ManifestSpec::Configuration { template } => Body::Configuration { template, status },
+        ManifestSpec::Route { traffic } => Body::Route { traffic, status },
+    }
+}
+
+/// What a manifest makes of the object that stands: labels, annotations and spec are as given, owner and status stay.
+pub fn made_over(
+    alloc: Global,
+    key: Key,
+    old: Option<&Object>,
+    manifest: Manifest,
+) -> Result<Object, AllocError>
+    ensures { IfOk result (λ o. o ≡ spec.made_over key (option_copied old.entry) manifest) }
+{
+    let owner = owner_of(alloc, old)?;
+    let status = status_over(alloc, old)?;
+    Ok(Object {
+        key,
+        meta: Meta {
+            stamp: Stamp {
+                version: 0,
+                generation: 0,
+                uid: 0,
+                created: 0,
+            },
+            owner,
+            labels: manifest.labels,
+            annotations: manifest.annotations,
+        },
+        body: body_of(manifest.spec, status),
+    })
+}
+
+/// A key in new memory.
+pub fn key_of(alloc: Global, kind: Kind, space: &Text, name: &Text) -> Result<Key, AllocError>
+    ensures { IfOk result (λ k. k ≡ key_of kind space.now name.now) }
+{
+    Ok(Key {
+        kind,
+        name: Name {
+            space: space.copy(alloc)?,
+            name: name.copy(alloc)?,
+        },
+    })
+}

@@ -1,0 +1,157 @@
+//! Putting the object that a manifest asks for.
+ghost use Rattle.std.specs.Prelude.{◌≡◌, ◌≢◌, ◌<◌, ◌≤◌, ◌-◌, ◌^◌, length, IfOk};
+ghost use Rattle.std.specs.Option.{option_copied, ForSome};
+ghost use Rattle.http_session.specs.Reply.{IsReply, IsReplyCode};
+ghost use Rattle.api_objects.specs.Objects as objects;
+ghost use Rattle.api_replies.specs.Replies as replies;
+ghost use Rattle.api_objects.specs.Puts as spec;
+ghost use Rattle.api_replies.specs.Kept.{IsKept, CanBePut};
+ghost use Rattle.api_replies.specs.Outcomes.{CanBeMade, IsFit};
+
+use crate::objects::{key_of, made_over};
+use api_replies::{Outcome, shown};
+use http_session::Reply;
+use json_tree::{Copied, Text};
+use resource_types::{ClientKind, Manifest, Object};
+use std::alloc::{AllocError, Global};
+use version_store::item::Item;
+use version_store::store::Store;
+use version_store::write::{Change, Expect, Plan};
+
+/// Where an object stands, or is to stand.
+#[derive(Clone, Copy)]
+pub struct Place<'a> {
+    /// The kind.
+    pub kind: ClientKind,
+    /// The namespace.
+    pub space: &'a Text,
+    /// The simple name.
+    pub name: &'a Text,
+}
+
+/// The object with the stamp that it gets when it is put.
+fn with_stamp(store: &Store<Object>, moment: u64, object: Object) -> Object
+    requires { length store.now.entries < 2 ^ 64 - 1 }
+    ensures { result ≡ objects.with_stamp store.now.entries moment object }
+{
+    let mut object = object;
+    let stamp = store.stamp_of(&object, moment);
+    object.set_stamp(stamp);
+    object
+}
+
+/// The reply that shows what stands once an object is put.
+fn show_put(
+    alloc: Global,
+    code: u16,
+    old: Option<&Object>,
+    object: &Object,
+) -> Result<Reply, AllocError>
+    requires old { ForSome (option_copied old) IsKept }
+    requires kept { IsKept object.now }
+    requires code { IsReplyCode code }
+    requires other { code ≢ 405 }
+    ensures value { IfOk result (λ r. r ≡ replies.shown code (objects.put_over (option_copied old.entry) object.now)) }
+    ensures reply { IfOk result IsReply }
+{
+    match old {
+        Some(standing) if object.same(standing) => shown(alloc, code, standing),
+        _ => shown(alloc, code, object),
+    }
+}
+
+/// The object that a manifest asks for in its place, over the one that stands or over none, with the stamp that it gets.
+fn object_put(
+    alloc: Global,
+    store: &Store<Object>,
+    moment: u64,
+    place: Place<'_>,
+    old: Option<&Object>,
+    manifest: Manifest,
+) -> Result<Object, AllocError>
+    requires room { length store.now.entries < 2 ^ 64 - 1 }
+    requires kept { CanBePut place.kind manifest }
+    ensures value { IfOk result (λ o. o ≡ spec.object_put store.now.entries moment
+        (spec.place_key place.entry.kind place.entry.space.now place.entry.name.now) (option_copied old.entry) manifest) }
+    ensures kept { IfOk result IsKept }
+{
+    let of_kind = place.kind.kind();
+    let key = key_of(alloc, of_kind, place.space, place.name)?;
+    let made = made_over(alloc, key, old, manifest)?;
+    Ok(with_stamp(store, moment, made))
+}
+
+/// The put of an object under its key.
+fn put_of(alloc: Global, expect: Expect, object: Object) -> Result<Plan<Object>, AllocError>
+    requires { IsKept object }
+    ensures value { IfOk result (λ p. p ≡ spec.put_of expect object) }
+    ensures fits { IfOk result CanBeMade }
+{
+    let key = object.key.copy(alloc)?;
+    Ok(Plan {
+        key,
+        expect,
+        guarded: false,
+        change: Change::Put(object),
+    })
+}
+
+/// Puts an object over the one that stands, or over none.
+fn put(
+    alloc: Global,
+    code: u16,
+    old: Option<&Object>,
+    expect: Expect,
+    object: Object,
+) -> Result<Outcome, AllocError>
+    requires old { ForSome (option_copied old) IsKept }
+    requires kept { IsKept object }
+    requires code { IsReplyCode code }
+    requires other { code ≢ 405 }
+    ensures value { IfOk result (λ o. o ≡ spec.puts code (option_copied old.entry) expect object) }
+    ensures fits { IfOk result IsFit }
+{
+    let reply = show_put(alloc, code, old, &object)?;
+    let plan = put_of(alloc, expect, object)?;
+    Ok(Outcome {
+        reply,
+        plan: Some(plan),
+    })
+}
+
+/// Makes an object where none stands.
+pub fn make(
+    alloc: Global,
+    store: &Store<Object>,
+    moment: u64,
+    place: Place<'_>,
+    manifest: Manifest,
+) -> Result<Outcome, AllocError>
+    requires room { length store.now.entries < 2 ^ 64 - 1 }
+    requires kept { CanBePut place.kind manifest }
+    ensures value { IfOk result (λ o. o ≡ spec.makes store.now.entries moment place.entry.kind place.entry.space.now place.entry.name.now manifest) }
+    ensures fits { IfOk result IsFit }
+{
+    let object = object_put(alloc, store, moment, place, None, manifest)?;
+    put(alloc, 201, None, Expect::Absent, object)
+}
+
+/// Puts what a manifest makes of the object that stands.
+pub fn replace(
+    alloc: Global,
+    store: &Store<Object>,
+    moment: u64,
+    place: Place<'_>,
+    old: &Object,
+    manifest: Manifest,
+) -> Result<Outcome, AllocError>
+    requires room { length store.now.entries < 2 ^ 64 - 1 }
+    requires old { IsKept old.now }
+    requires kept { CanBePut place.kind manifest }
+    ensures value { IfOk result (λ o. o ≡ spec.replaces store.now.entries moment place.entry.kind place.entry.space.now place.entry.name.now old.now manifest) }
+    ensures fits { IfOk result IsFit }
+{
+    let expect = Expect::At(old.meta.stamp.version);
+    let object = object_put(alloc, store, moment, place, Some(old), manifest)?;
+    put(alloc, 200, Some(old), expect, object)
+}

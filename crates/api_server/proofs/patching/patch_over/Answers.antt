@@ -1,8 +1,0 @@
-use Rattle.api_server.proofs.Patches.{comes_over}
-use Rattle.api_server.proofs.patching.patch_over.Goals as goal
-
--- src/patching.rt:53:1
-pub returns-clause-answer : goal.returns-clause-answer
-returns-clause-answer c =
-    comes_over c.agreeing.result c.args.store.now.entries c.args.moment c.args.place.kind c.args.place.space.now c.args.place.name.now c.as_str.result.now c.as_str-2.result.now c.args.old.now c.args.patched.now
-    c.in_ok-manifest.manifest c.in_ok-is_fresh.is_fresh c.as_str.ensures c.as_str-2.ensures c.in_ok-manifest.ensures.value c.in_ok-is_fresh.ensures c.agreeing.ensures.answer
