@@ -88,6 +88,7 @@ replacing_with journal moment kind space name m = do
   old ← there (object_kind kind) name (standing journal (object_kind kind) space name)
   agreeing journal moment kind space name old (is_version_of old m.version) m
 
+-- the manifest gives a version
 abbrev pub gives_version : Manifest → Bool
 gives_version m = not (is_empty m.version)
 

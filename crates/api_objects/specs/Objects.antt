@@ -27,6 +27,7 @@ abbrev pub owner_of : Option Object → Option Owner
 owner_of None = None
 owner_of (Some old) = old.meta.owner
 
+-- the status that is kept; there is none where nothing stands
 abbrev pub status_over : Option Object → ObjectStatus
 status_over None = no_status
 status_over (Some old) = status_of old.body

@@ -26,10 +26,12 @@ use Rattle.api_objects.specs.Objects.{made_over, with_stamp, put_over}
 
 -- ---- reasons to refuse
 
+-- a manifest that is accepted, or why it is refused
 abbrev pub taken : Result Manifest ManifestRefusal → Result Manifest Refusal
 taken (Ok m) = Ok m
 taken (Err refusal) = Err (OfManifest refusal)
 
+-- the value of a body that is readable JSON
 abbrev pub readable : Option Json → Result Json Refusal
 readable None = Err (OfManifest manifest.UnreadableBody)
 readable (Some json) = Ok json
@@ -38,14 +40,17 @@ readable (Some json) = Ok json
 abbrev pub standing : Log → Kind → List ℕ → List ℕ → Option Object
 standing journal kind space name = find (key_of kind space name) (state journal)
 
+-- what is found under the name, or that there is none
 abbrev pub there : Kind → List ℕ → Option Object → Result Object Refusal
 there kind name None = Err (NotFound kind name)
 there kind name (Some o) = Ok o
 
+-- go on where nothing is found under the name
 abbrev pub not_there : Kind → List ℕ → Option Object → Result (Unit {0}) Refusal
 not_there kind name None = Ok tt
 not_there kind name (Some o) = Err (AlreadyExists kind name)
 
+-- go on where no template changes under its name
 abbrev pub changed_well : Result (Unit {0}) KeptName → Result (Unit {0}) Refusal
 changed_well (Ok kept) = Ok tt
 changed_well (Err fault) = Err UnderKeptName
@@ -58,6 +63,7 @@ version_text o = decimal o.meta.stamp.version
 abbrev pub is_version_of : Object → List ℕ → Bool
 is_version_of o given = bytes_eq given (version_text o)
 
+-- another version stands
 abbrev pub conflict : Kind → Object → Refusal
 conflict kind o = Conflict kind o.key.name.name o.meta.stamp.version
 

@@ -24,6 +24,7 @@ pub record IsKept (o : Object) : Type 0 where
   pub shown : IsShown o
   pub rest : RestOfSpecFits 3 32 (manifest_spec o.body)
 
+-- what the entry puts, if anything, can be kept
 abbrev pub KeepsPut : Entry Object Kind Key Name Actor → Type 0
 KeepsPut entry = ForSome entry.object IsKept
 

@@ -15,6 +15,7 @@ plural_of kind.Route = codes "routes"
 plural_of kind.Health = codes "health"
 plural_of kind.Table = codes "tables"
 
+-- the code of the reply
 abbrev pub code_of : Refusal → ℕ
 code_of NoSuchPath = 404
 code_of (Manifest refusal) = manifest.code_of refusal
@@ -25,6 +26,7 @@ code_of (Conflict kind name version) = 409
 code_of KeptName = 422
 code_of (BeyondNewest after newest) = 400
 
+-- the reason in one word
 abbrev pub reason_of : Refusal → List ℕ
 reason_of NoSuchPath = codes "NotFound"
 reason_of (Manifest refusal) = manifest.reason_of refusal
@@ -39,12 +41,15 @@ reason_of (BeyondNewest after newest) = codes "BadRequest"
 abbrev pub object_message : Kind → List ℕ → List ℕ → List ℕ
 object_message kind name says = plural_of kind ++ codes " \"" ++ name ++ codes "\" " ++ says
 
+-- that an object has this version
 abbrev pub version_says : ℕ → List ℕ
 version_says version = codes "has version " ++ decimal version
 
+-- that a poll goes on from beyond the newest version
 abbrev pub beyond_message : ℕ → ℕ → List ℕ
 beyond_message after newest = codes "resourceVersion " ++ decimal after ++ codes " is beyond " ++ decimal newest
 
+-- the message for a reader
 abbrev pub message_of : Refusal → List ℕ
 message_of NoSuchPath = codes "no such path"
 message_of (Manifest refusal) = manifest.message_of refusal

@@ -29,7 +29,7 @@ fn reply_with(alloc: Global, code: u16, allow: Allow, body: &Json) -> Result<Rep
     })
 }
 
-/// A reply of code 200 or 201.
+/// A reply of any code but 405, with the compact text of a value as its body.
 pub fn reply_of(alloc: Global, code: u16, body: &Json) -> Result<Reply, AllocError>
     requires well { IsTrue (is_well_formed body.now) }
     requires depth { depth_of body.now ≤ 64 }

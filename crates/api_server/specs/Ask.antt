@@ -48,6 +48,7 @@ AnswersCall journal moment bytes (paths.patch kind space name) outcome = Answers
 AnswersCall journal moment bytes (paths.remove kind space name) outcome = outcome ≡ settled (removing journal kind space name)
 AnswersCall journal moment bytes other outcome = outcome ≡ settled (Err NoSuchPath)
 
+-- what a method and a target come to: a call, or a fault of the path
 abbrev pub AnswersRoute : Log → ℕ → List ℕ → Result paths.Call PathError → Outcome → Type 0
 AnswersRoute journal moment bytes (Err fault) outcome = outcome ≡ only (path_refused fault)
 AnswersRoute journal moment bytes (Ok call) outcome = AnswersCall journal moment bytes call outcome
