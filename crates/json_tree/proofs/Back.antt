@@ -1,10 +1,10 @@
 -- The data of a value gives the value back.
 use Rattle.std.proofs.Common.{◌≡◌, ℕ, List, [], ◌∷◌, map, refl, sym, ap, ap₂, subst, ◌∙◌}
-use Rattle.serde_json.specs.Data.{Num, Data, Items, no_items, item, Members, no_members, member, null, boolean, number, unsigned, negative, float, string, array, object}
+use Rattle.serde_json.specs.Data.{Data}
 use Rattle.serde_json.specs.View.{items_of}
 use Rattle.json_tree.specs.Back.{json_of, list_of, pairs_of}
 use Rattle.json_tree.specs.Tree.{data_of, data_step, members_data}
-use Rattle.json_tree.specs.declared.value.Json.{Json, Null, Bool, Int, Nat, Str, Arr, Obj}
+use Rattle.json_tree.specs.declared.value.Json.{Json, Arr, Obj}
 use Rattle.json_tree.specs.declared.value.Json.TheOpen.{Json-F}
 use Rattle.json_tree.specs.declared.value.Json.TheViews.{roll-Json}
 use Rattle.json_tree.specs.declared.value.Json.TheVariants.{rolls-Null, rolls-Bool, rolls-Int, rolls-Nat, rolls-Str, rolls-Arr, rolls-Obj}

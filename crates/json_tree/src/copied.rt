@@ -52,7 +52,7 @@ impl<T: Copied> Copied for Option<T> {
 
 impl<T: Copied> Copied for Seq<T> {
     fn copy(&self, alloc: Global) -> Result<Seq<T>, AllocError> {
-        let mut copies = Seq::new(alloc);
+        let mut copies = Seq::with_capacity(alloc, self.len())?;
         for item in self.as_slice() {
             copies.push(item.copy(alloc)?)?;
         }

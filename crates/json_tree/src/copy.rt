@@ -29,7 +29,7 @@ impl Json {
 fn copy_items(alloc: Global, items: &[Json]) -> Result<Seq<Json>, AllocError>
     ensures { IfOk result (λ copy. copy ≡ items.now) }
 {
-    let mut copies = Seq::new(alloc);
+    let mut copies = Seq::with_capacity(alloc, items.len())?;
     for item in items {
         copies.push(item.copy(alloc)?)?;
     }
@@ -40,7 +40,7 @@ fn copy_items(alloc: Global, items: &[Json]) -> Result<Seq<Json>, AllocError>
 fn copy_members(alloc: Global, members: &[(Text, Json)]) -> Result<Members, AllocError>
     ensures { IfOk result (λ copy. copy.entries ≡ members.now) }
 {
-    let mut copies = Members::new(alloc);
+    let mut copies = Members::with_capacity(alloc, members.len())?;
     for member in members {
         let name = member.0.copy(alloc)?;
         let value = member.1.copy(alloc)?;

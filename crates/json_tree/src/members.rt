@@ -39,6 +39,15 @@ impl<T> Table<T> {
         }
     }
 
+    /// A table with no pairs, and memory for so many: putting these takes no memory for the table itself.
+    pub fn with_capacity(alloc: Global, capacity: usize) -> Result<Table<T>, AllocError>
+        ensures { IfOk result (λ table. table.entries ≡ []) }
+    {
+        Ok(Table {
+            entries: Seq::with_capacity(alloc, capacity)?,
+        })
+    }
+
     /// The allocator of its memory.
     pub fn allocator(&self) -> Global {
         self.entries.allocator()
@@ -146,7 +155,7 @@ impl<T: Copied> Table<T> {
     pub fn copy(&self, alloc: Global) -> Result<Table<T>, AllocError>
         ensures { IfOk result (λ copy. copy ≡ self.now) }
     {
-        let mut copies = Table::new(alloc);
+        let mut copies = Table::with_capacity(alloc, self.len())?;
         for entry in self.entries() {
             let name = entry.0.copy(alloc)?;
             let value = entry.1.copy(alloc)?;

@@ -133,7 +133,7 @@ fn seq_of(alloc: Global, items: &Vec<Value>) -> Result<Seq<Json>, Refusal>
     ensures float { IsErrOf result Refusal.Float
         → IsTrue (items_have_float (items_view items.now.items)) }
 {
-    let mut found = Seq::new(alloc);
+    let mut found = Seq::with_capacity(alloc, items.len())?;
     for item in items {
         let json = tree_of(alloc, item)?;
         found.push(json)?;
@@ -155,7 +155,7 @@ fn table_of(alloc: Global, members: &Map<String, Value>) -> Result<Members, Refu
     ensures float { IsErrOf result Refusal.Float
         → IsTrue (members_have_float (members_view members.now.entries)) }
 {
-    let mut found = Members::new(alloc);
+    let mut found = Members::with_capacity(alloc, members.len())?;
     for (key, member) in members.iter() {
         let name = Text::new(alloc, key.as_str())?;
         let json = tree_of(alloc, member)?;

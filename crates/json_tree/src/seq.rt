@@ -34,6 +34,15 @@ impl<T> Seq<T> {
         }
     }
 
+    /// A list with no items, and memory for so many: pushing these takes none.
+    pub fn with_capacity(alloc: Global, capacity: usize) -> Result<Seq<T>, AllocError>
+        ensures { IfOk result (λ list. list ≡ []) }
+    {
+        Ok(Seq {
+            items: Vec::with_capacity(alloc, capacity)?,
+        })
+    }
+
     /// The items of a `Vec`, which are moved and not copied.
     pub fn from_vec(items: Vec<T>) -> Seq<T>
         ensures { result ≡ items.items }
@@ -88,11 +97,9 @@ impl<T: Copy + Drop> Seq<T> {
     pub fn from_slice(alloc: Global, items: &[T]) -> Result<Seq<T>, AllocError>
         ensures { IfOk result (λ list. list ≡ items.now) }
     {
-        let mut list = Seq::new(alloc);
-        for item in items {
-            list.push(*item)?;
-        }
-        Ok(list)
+        Ok(Seq {
+            items: Vec::from_slice(alloc, items)?,
+        })
     }
 }
 

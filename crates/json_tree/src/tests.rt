@@ -125,6 +125,26 @@ fn keeps_names_in_order(rt: HostRuntime) -> Result<(), Fail> {
 }
 
 #[test]
+fn texts_are_short_or_long(rt: HostRuntime) -> Result<(), Fail> {
+    let alloc = rt.alloc();
+    for want in [
+        "",
+        "twenty-three bytes here",
+        "it is twenty-four bytes.",
+        "twenty-five bytes, of two",
+    ] {
+        let text = Text::new(alloc, want)?;
+        assert_eq!(rt; text.as_str(), want);
+        assert_eq!(rt; text.copy(alloc)?, text);
+        assert_eq!(rt;
+            text.clone()?,
+            Text::from_string(String::from_str(alloc, want)?)
+        );
+    }
+    Ok(())
+}
+
+#[test]
 fn tells_texts_apart(rt: HostRuntime) -> Result<(), Fail> {
     let alloc = rt.alloc();
     let one = read_json(alloc, b"[1,2]")?;

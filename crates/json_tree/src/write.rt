@@ -13,6 +13,9 @@ use std::alloc::{AllocError, Global};
 /// How deep arrays and objects may nest in a value that is written.
 pub const MAX_WRITTEN_DEPTH: usize = 64;
 
+/// The memory, in bytes, that a text begins with: most objects are no longer.
+const FIRST_ROOM: usize = 512;
+
 /// The compact text that `serde_json` writes of a well-formed value: no blanks, and names in the order of their bytes.
 ///
 /// It reads as that value again: see [`reads_back`].
@@ -24,7 +27,7 @@ pub fn write_json(alloc: Global, json: &Json) -> Result<Vec<u8>, AllocError>
     ensures reads_back { IfOk result (λ bytes. read bytes.items ≡ Some (data_of json.now)) }
     ensures whole { IfOk result (λ _. IsFalse (has_float (data_of json.now))) }
 {
-    let mut out = Writer::new(Vec::with_capacity(alloc, 128)?);
+    let mut out = Writer::new(Vec::with_capacity(alloc, FIRST_ROOM)?);
     write_value(json, &mut out)?;
     Ok(out.into_inner())
 }
