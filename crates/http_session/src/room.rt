@@ -8,7 +8,10 @@ use itoa::Buffer;
 use std::alloc::{AllocError, Global};
 use std::marker::Model;
 
-/// Room of 512 bytes, which the head of each reply fits.
+/// The least room, in bytes.
+pub(crate) const ROOM: usize = 8192;
+
+/// Room of 8,192 bytes, which the head of each reply fits, and behind it the body of most.
 #[derive(Drop)]
 pub(crate) struct Room {
     bytes: Vec<u8>,
@@ -22,7 +25,7 @@ impl Model for Room {
 
     ghost view = { λ r. r.bytes.items };
 
-    ghost invariant = { λ r. 512 ≤ vec_capacity r.bytes };
+    ghost invariant = { λ r. 8192 ≤ vec_capacity r.bytes };
 }
 
 impl Room {
@@ -30,7 +33,7 @@ impl Room {
     pub fn new(alloc: Global) -> Result<Room, AllocError>
         ensures { IfOk result (λ room. room ≡ []) }
     {
-        let bytes = Vec::with_capacity(alloc, 512)?;
+        let bytes = Vec::with_capacity(alloc, ROOM)?;
         Ok(Room { bytes })
     }
 
@@ -43,7 +46,7 @@ impl Room {
 
     /// Writes behind what was written.
     pub fn push(&mut self, text: &[u8])
-        requires { length self.old + length text.now ≤ 512 }
+        requires { length self.old + length text.now ≤ ROOM }
         ensures { self.new ≡ self.old ++ text.now }
     {
         let _ = self.bytes.extend_from_slice(text);
