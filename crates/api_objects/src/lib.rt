@@ -11,5 +11,4 @@ mod puts;
 
 pub use bodies::{agree, changed_well, is_version_of, readable, taken};
 pub use lookups::{standing, there};
-pub use objects::{key_of, made_over};
 pub use puts::{Place, make, replace};

@@ -6,7 +6,7 @@ use Rattle.serve_names.specs.Labels.{is_label_of}
 use Rattle.resource_types.specs.declared.names.Kind.{Kind}
 use Rattle.resource_types.specs.declared.names.Kind.TheVariants as kind
 use Rattle.resource_types.specs.declared.names.ClientKind.{ClientKind}
-use Rattle.resource_types.specs.declared.names.ClientKind.TheVariants as client
+use Rattle.resource_types.specs.Manifests.{client_kind}
 use Rattle.http_session.specs.declared.message.Allow.{Allow}
 use Rattle.http_session.specs.declared.message.Allow.TheVariants as allow
 
@@ -112,13 +112,6 @@ resource_of path = path_from path (behind (codes "/apis/serving.knative.dev/v1/n
 
 -- ---- methods
 
--- the kinds that clients create and replace
-abbrev pub client_kind_of : Kind → Option ClientKind
-client_kind_of kind.Service = Some client.Service
-client_kind_of kind.Configuration = Some client.Configuration
-client_kind_of kind.Route = Some client.Route
-client_kind_of other = None
-
 abbrev pub collection_methods : Kind → List ℕ → Option ClientKind → List (List ℕ × Call)
 collection_methods k space None = (codes "GET", list k space) ∷ []
 collection_methods k space (Some c) = (codes "GET", list k space) ∷ ((codes "POST", create c space) ∷ [])
@@ -134,8 +127,8 @@ object_methods k space name (Some c) =
 
 -- the methods of what a path names, and the call that each makes
 abbrev pub methods_of : Resource → List (List ℕ × Call)
-methods_of (collection k space) = collection_methods k space (client_kind_of k)
-methods_of (one k space name) = object_methods k space name (client_kind_of k)
+methods_of (collection k space) = collection_methods k space (client_kind k)
+methods_of (one k space name) = object_methods k space name (client_kind k)
 methods_of reports = (codes "POST", report) ∷ []
 methods_of clock = (codes "POST", set_clock) ∷ []
 methods_of steps = (codes "POST", step) ∷ []
@@ -152,8 +145,8 @@ object_allow (Some c) = allow.GetPutPatchDelete
 
 -- the same methods by their names alone
 abbrev pub allow_of : Resource → Allow
-allow_of (collection k space) = collection_allow (client_kind_of k)
-allow_of (one k space name) = object_allow (client_kind_of k)
+allow_of (collection k space) = collection_allow (client_kind k)
+allow_of (one k space name) = object_allow (client_kind k)
 allow_of reports = allow.Post
 allow_of clock = allow.Post
 allow_of steps = allow.Post

@@ -158,7 +158,7 @@ fn traffic_in(alloc: Global, members: &Members) -> Result<Seq<Target>, DecodeErr
 fn targets_in(alloc: Global, jsons: &[Json]) -> Result<Seq<Target>, DecodeError>
     ensures { Gives (λ ts. ts) result (targets_in 0 jsons.now) }
 {
-    let mut targets = Seq::new(alloc);
+    let mut targets = Seq::with_capacity(alloc, jsons.len())?;
     for index in 0..jsons.len() {
         let target = target_in(alloc, index as u64, &jsons[index])?;
         targets.push(target)?;

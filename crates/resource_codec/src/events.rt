@@ -7,7 +7,7 @@ ghost use Rattle.resource_codec.specs.Objects.{IsWellObject};
 ghost use Rattle.resource_codec.specs.Lists.{put_type, put_event, removal_namespace, removal_event, poll_members};
 
 use crate::objects::encode;
-use crate::puts::{put, put_text, put_word};
+use crate::puts::{put, put_made, put_text, put_word};
 use crate::tables::other_namespace;
 use json_tree::{Json, Members, Seq};
 use resource_types::{Key, Kind, Object, decimal_text};
@@ -66,7 +66,7 @@ fn removal_members(alloc: Global, key: &Key, version: u64) -> Result<Members, Al
     put_text(alloc, &mut members, "name", &key.name.name)?;
     put_word(alloc, &mut members, "namespace", removal_namespace(key))?;
     let digits = decimal_text(alloc, version)?;
-    put_text(alloc, &mut members, "resourceVersion", &digits)?;
+    put_made(alloc, &mut members, "resourceVersion", digits)?;
     put_word(alloc, &mut members, "type", "DELETED")?;
     Ok(members)
 }
@@ -88,6 +88,6 @@ fn poll_members(alloc: Global, events: Seq<Json>, version: u64) -> Result<Member
     put(alloc, &mut members, "events", Json::Arr(events))?;
     put_word(alloc, &mut members, "kind", "Poll")?;
     let digits = decimal_text(alloc, version)?;
-    put_text(alloc, &mut members, "resourceVersion", &digits)?;
+    put_made(alloc, &mut members, "resourceVersion", digits)?;
     Ok(members)
 }

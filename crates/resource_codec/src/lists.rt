@@ -6,7 +6,7 @@ ghost use Rattle.json_tree.specs.Tree.{is_well_formed, depth_of, items_data, ite
 ghost use Rattle.resource_codec.specs.Written.{object_of};
 ghost use Rattle.resource_codec.specs.Lists.{list_metadata, object_list, table_list, list_members};
 
-use crate::puts::{put, put_text, put_word};
+use crate::puts::{put, put_made, put_word};
 use json_tree::{Json, Members, Seq, Text};
 use resource_types::{Kind, api_version, decimal_text};
 use std::alloc::{AllocError, Global};
@@ -50,7 +50,7 @@ fn table_list(alloc: Global, items: Seq<Json>, version: u64) -> Result<Members, 
     put(alloc, &mut members, "items", Json::Arr(items))?;
     put_word(alloc, &mut members, "kind", "TableList")?;
     let digits = decimal_text(alloc, version)?;
-    put_text(alloc, &mut members, "resourceVersion", &digits)?;
+    put_made(alloc, &mut members, "resourceVersion", digits)?;
     Ok(members)
 }
 
@@ -67,7 +67,7 @@ fn object_list(
     put_word(alloc, &mut members, "apiVersion", api_version())?;
     put(alloc, &mut members, "items", Json::Arr(items))?;
     let word = list_word(alloc, kind)?;
-    put_text(alloc, &mut members, "kind", &word)?;
+    put_made(alloc, &mut members, "kind", word)?;
     let metadata = list_metadata(alloc, version)?;
     put(alloc, &mut members, "metadata", Json::Obj(metadata))?;
     Ok(members)
@@ -79,7 +79,7 @@ fn list_word(alloc: Global, kind: Kind) -> Result<Text, AllocError>
 {
     let mut word = String::from_str(alloc, kind.as_str())?;
     word.push_str("List")?;
-    Text::new(alloc, word.as_str())
+    Ok(Text::from_string(word))
 }
 
 #[tactic(auto, unfolding(crate::specs::Lists::list_metadata))]
@@ -88,6 +88,6 @@ fn list_metadata(alloc: Global, version: u64) -> Result<Members, AllocError>
 {
     let mut members = Members::new(alloc);
     let digits = decimal_text(alloc, version)?;
-    put_text(alloc, &mut members, "resourceVersion", &digits)?;
+    put_made(alloc, &mut members, "resourceVersion", digits)?;
     Ok(members)
 }

@@ -6,7 +6,7 @@ ghost use Rattle.resource_codec.specs.Shape.{shape};
 ghost use Rattle.resource_codec.specs.Written.{metadata_members, pod_members, kind_of, IsRegular};
 ghost use Rattle.resource_codec.specs.Objects.{owner_members, owners_of, object_metadata, object_document, shown_labels, shown_annotations, encoded, IsClientBody, IsWellObject};
 
-use crate::puts::{put_array, put_number, put_text, put_texts, put_truth, put_word};
+use crate::puts::{put_array, put_made, put_number, put_text, put_texts, put_truth, put_word};
 use crate::revisions::{shown_annotations, shown_labels};
 use crate::statuses::{shown_moment, status_members};
 use crate::tables::table_members;
@@ -17,6 +17,9 @@ use resource_types::{
 };
 use serve_names::uid_text;
 use std::alloc::{AllocError, Global};
+
+// The most fields of an object's metadata.
+const METADATA_FIELDS: usize = 9;
 
 /// An object as JSON, by the kind of its body. A Health is not shown: it gives null.
 ///
@@ -126,11 +129,11 @@ fn object_metadata(
 ) -> Result<Members, AllocError>
     ensures { IfOk result (λ m. m.entries ≡ metadata_members (object_metadata object.now labels.now annotations.now)) }
 {
-    let mut members = Members::new(alloc);
+    let mut members = Members::with_capacity(alloc, METADATA_FIELDS)?;
     let stamp = object.meta.stamp;
     put_texts(alloc, &mut members, "annotations", annotations)?;
     let created = shown_moment(alloc, stamp.created)?;
-    put_text(alloc, &mut members, "creationTimestamp", &created)?;
+    put_made(alloc, &mut members, "creationTimestamp", created)?;
     put_number(alloc, &mut members, "generation", Some(stamp.generation))?;
     put_texts(alloc, &mut members, "labels", labels)?;
     put_text(alloc, &mut members, "name", &object.key.name.name)?;
@@ -138,9 +141,9 @@ fn object_metadata(
     let owners = owner_jsons(alloc, &object.meta.owner)?;
     put_array(alloc, &mut members, "ownerReferences", owners)?;
     let version = decimal_text(alloc, stamp.version)?;
-    put_text(alloc, &mut members, "resourceVersion", &version)?;
+    put_made(alloc, &mut members, "resourceVersion", version)?;
     let uid = uid_text(alloc, stamp.uid)?;
-    put_text(alloc, &mut members, "uid", &uid)?;
+    put_made(alloc, &mut members, "uid", uid)?;
     Ok(members)
 }
 
@@ -164,6 +167,6 @@ fn owner_members(alloc: Global, owner: &Owner) -> Result<Members, AllocError>
     put_word(alloc, &mut members, "kind", owner.kind.as_str())?;
     put_text(alloc, &mut members, "name", &owner.name)?;
     let uid = uid_text(alloc, owner.uid)?;
-    put_text(alloc, &mut members, "uid", &uid)?;
+    put_made(alloc, &mut members, "uid", uid)?;
     Ok(members)
 }

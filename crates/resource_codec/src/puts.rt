@@ -57,6 +57,22 @@ pub fn put_text(
     put_word(alloc, members, name, text.as_str())
 }
 
+/// Puts a text that was made for it and is not empty: it is moved and not copied.
+#[tactic(auto, unfolding(crate::specs::Written::put_field, crate::specs::Written::text_field))]
+pub fn put_made(
+    alloc: Global,
+    members: &mut Members,
+    name: &str,
+    text: Text,
+) -> Result<(), AllocError>
+    ensures { OnOk result (members.new.entries ≡ put_field name.now (text_field text) members.old.entries) }
+{
+    if text.is_empty() {
+        return Ok(());
+    }
+    put(alloc, members, name, Json::Str(text))
+}
+
 /// Puts a number, if there is one.
 #[tactic(auto, unfolding(crate::specs::Written::put_field, crate::specs::Written::number_field))]
 pub fn put_number(
@@ -138,7 +154,7 @@ pub fn put_texts(
 fn text_members(alloc: Global, texts: &Table<Text>) -> Result<Members, AllocError>
     ensures { IfOk result (λ m. m.entries ≡ map text_member texts.now.entries) }
 {
-    let mut members = Members::new(alloc);
+    let mut members = Members::with_capacity(alloc, texts.len())?;
     for text in texts.entries() {
         let name = text.0.copy(alloc)?;
         let value = text.1.copy(alloc)?;

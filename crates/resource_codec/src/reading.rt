@@ -170,7 +170,7 @@ pub fn optional_texts(
 fn texts_in(alloc: Global, members: &Members, field: Field) -> Result<Table<Text>, DecodeError>
     ensures { Gives (λ t. t) result (texts_in field members.now.entries) }
 {
-    let mut texts = Table::new(alloc);
+    let mut texts = Table::with_capacity(alloc, members.len())?;
     for member in members.entries() {
         match &member.1 {
             Json::Null => {}
@@ -197,7 +197,7 @@ fn is_rest(name: &Text, value: &Json) -> bool
 pub fn rest_of(alloc: Global, members: &Members) -> Result<Members, AllocError>
     ensures { IfOk result (λ rest. rest ≡ rest_of members.now.entries) }
 {
-    let mut rest = Members::new(alloc);
+    let mut rest = Members::with_capacity(alloc, members.len())?;
     for member in members.entries() {
         if is_rest(&member.0, &member.1) {
             let name = member.0.copy(alloc)?;

@@ -1,8 +1,7 @@
 //! Lists of what stands.
-ghost use Rattle.std.specs.Prelude.{◌≡◌, ◌≢◌, ◌<◌, ◌≤◌, IsTrue, IfOk, Some, length, map, slice_get};
+ghost use Rattle.std.specs.Prelude.{◌≡◌, ◌≢◌, ◌≤◌, IsTrue, IfOk, map};
 ghost use Rattle.std.specs.Option.{option_copied};
 ghost use Rattle.json_tree.specs.Tree.{is_well_formed, depth_of};
-ghost use Rattle.resource_types.specs.Lookups.{state, of_kind};
 ghost use Rattle.resource_codec.specs.Objects.{encoded};
 ghost use Rattle.resource_codec.specs.Views.{objects_asked, list_of, AreShown};
 
@@ -10,7 +9,7 @@ use crate::lists::list_json;
 use crate::objects::encode;
 use crate::polls::is_within;
 use json_tree::{Json, Seq, Text};
-use resource_types::{Kind, Object};
+use resource_types::{Kind, Object, object_at};
 use std::alloc::{AllocError, Global};
 use version_store::store::Store;
 
@@ -48,15 +47,4 @@ fn items_of(
         }
     }
     Ok(items)
-}
-
-// The object at the place among those of the kind.
-fn object_at(store: &Store<Object>, kind: Kind, place: u64) -> &Object
-    requires { place < length (of_kind kind (state store.now.entries)) }
-    ensures { slice_get (of_kind kind (state store.now.entries)) place ≡ Some result.now }
-{
-    match store.nth(kind, place) {
-        Some(object) => object,
-        None => unreachable!(),
-    }
 }

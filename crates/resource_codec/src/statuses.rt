@@ -2,7 +2,7 @@
 ghost use Rattle.std.specs.Prelude.{◌≡◌, IfOk, map};
 ghost use Rattle.resource_codec.specs.Objects.{shown_moment, truth_word, condition_word, severity_word, condition_members, condition_json, published_members, published_json, observed_generation, status_members};
 
-use crate::puts::{put_array, put_number, put_text, put_word};
+use crate::puts::{put_array, put_made, put_number, put_text, put_word};
 use crate::writing::target_members;
 use json_tree::{Json, Members, Seq, Text};
 use resource_types::{CondName, Condition, ObjectStatus, Target, Truth};
@@ -11,6 +11,9 @@ use std::alloc::{AllocError, Global};
 
 // 9999-12-31T23:59:59Z, in whole seconds since 1970.
 const LAST_MOMENT: u64 = 253_402_300_799;
+
+// The most fields of a condition.
+const CONDITION_FIELDS: usize = 6;
 
 /// A moment as a text. One past the end of the year 9999, to which no clock gets, is shown as that end.
 #[tactic(auto, unfolding(crate::specs::Objects::shown_moment))]
@@ -54,9 +57,9 @@ fn severity_word(info: bool) -> &'static str
 fn condition_members(alloc: Global, condition: &Condition) -> Result<Members, AllocError>
     ensures { IfOk result (λ m. m.entries ≡ condition_members condition.now) }
 {
-    let mut members = Members::new(alloc);
+    let mut members = Members::with_capacity(alloc, CONDITION_FIELDS)?;
     let since = shown_moment(alloc, condition.since)?;
-    put_text(alloc, &mut members, "lastTransitionTime", &since)?;
+    put_made(alloc, &mut members, "lastTransitionTime", since)?;
     put_text(alloc, &mut members, "message", &condition.message)?;
     put_text(alloc, &mut members, "reason", &condition.reason)?;
     put_word(
@@ -73,7 +76,7 @@ fn condition_members(alloc: Global, condition: &Condition) -> Result<Members, Al
 fn condition_jsons(alloc: Global, conditions: &Seq<Condition>) -> Result<Seq<Json>, AllocError>
     ensures { IfOk result (λ js. js ≡ map condition_json conditions.now) }
 {
-    let mut jsons = Seq::new(alloc);
+    let mut jsons = Seq::with_capacity(alloc, conditions.len())?;
     for condition in conditions.as_slice() {
         let members = condition_members(alloc, condition)?;
         jsons.push(Json::Obj(members))?;
@@ -94,7 +97,7 @@ fn published_members(alloc: Global, target: &Target) -> Result<Members, AllocErr
 pub fn published_jsons(alloc: Global, targets: &Seq<Target>) -> Result<Seq<Json>, AllocError>
     ensures { IfOk result (λ js. js ≡ map published_json targets.now) }
 {
-    let mut jsons = Seq::new(alloc);
+    let mut jsons = Seq::with_capacity(alloc, targets.len())?;
     for target in targets.as_slice() {
         let members = published_members(alloc, target)?;
         jsons.push(Json::Obj(members))?;

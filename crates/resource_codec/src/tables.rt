@@ -2,7 +2,7 @@
 ghost use Rattle.std.specs.Prelude.{◌≡◌, IfOk, map};
 ghost use Rattle.resource_codec.specs.Objects.{row_members, row_json, other_namespace, table_members};
 
-use crate::puts::{put_array, put_number, put_text, put_word};
+use crate::puts::{put_array, put_made, put_number, put_text, put_word};
 use crate::statuses::published_jsons;
 use json_tree::{Json, Members, Seq};
 use resource_types::{Object, Row, Target, decimal_text};
@@ -17,7 +17,7 @@ fn row_members(alloc: Global, row: &Row) -> Result<Members, AllocError>
     put_number(alloc, &mut members, "percent", Some(row.percent))?;
     put_text(alloc, &mut members, "revisionName", &row.revision)?;
     let uid = uid_text(alloc, row.uid)?;
-    put_text(alloc, &mut members, "revisionUid", &uid)?;
+    put_made(alloc, &mut members, "revisionUid", uid)?;
     put_text(alloc, &mut members, "tag", &row.tag)?;
     Ok(members)
 }
@@ -25,7 +25,7 @@ fn row_members(alloc: Global, row: &Row) -> Result<Members, AllocError>
 fn row_jsons(alloc: Global, rows: &Seq<Row>) -> Result<Seq<Json>, AllocError>
     ensures { IfOk result (λ js. js ≡ map row_json rows.now) }
 {
-    let mut jsons = Seq::new(alloc);
+    let mut jsons = Seq::with_capacity(alloc, rows.len())?;
     for row in rows.as_slice() {
         let members = row_members(alloc, row)?;
         jsons.push(Json::Obj(members))?;
@@ -56,9 +56,9 @@ pub fn table_members(
     let space = other_namespace(object.key.name.space.as_str());
     put_word(alloc, &mut members, "namespace", space)?;
     let version = decimal_text(alloc, object.meta.stamp.version)?;
-    put_text(alloc, &mut members, "resourceVersion", &version)?;
+    put_made(alloc, &mut members, "resourceVersion", version)?;
     let uid = uid_text(alloc, route)?;
-    put_text(alloc, &mut members, "routeUid", &uid)?;
+    put_made(alloc, &mut members, "routeUid", uid)?;
     let row_items = row_jsons(alloc, rows)?;
     put_array(alloc, &mut members, "rows", row_items)?;
     let target_items = published_jsons(alloc, targets)?;

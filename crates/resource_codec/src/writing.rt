@@ -10,6 +10,12 @@ use json_tree::{Json, Members, Seq};
 use resource_types::{PodSpec, Target, Template};
 use std::alloc::{AllocError, Global};
 
+/// The most fields of a document.
+const DOCUMENT_FIELDS: usize = 5;
+
+/// The most fields of a target, its `url` among them.
+const TARGET_FIELDS: usize = 6;
+
 /// A document: `metadata` is left out where it is empty, `spec` always stands, and `status` where there is one.
 #[tactic(auto, unfolding(crate::specs::Written::document_members, crate::specs::Written::put_field))]
 pub fn document(
@@ -28,7 +34,7 @@ pub fn document(
       status = status;
     })) }
 {
-    let mut members = Members::new(alloc);
+    let mut members = Members::with_capacity(alloc, DOCUMENT_FIELDS)?;
     put_word(alloc, &mut members, "apiVersion", api)?;
     put_word(alloc, &mut members, "kind", kind)?;
     put_object(alloc, &mut members, "metadata", metadata)?;
@@ -120,7 +126,7 @@ pub fn pod_members(alloc: Global, spec: &PodSpec) -> Result<Members, AllocError>
 pub fn target_members(alloc: Global, target: &Target) -> Result<Members, AllocError>
     ensures { IfOk result (λ m. m.entries ≡ target_members target.now) }
 {
-    let mut members = Members::new(alloc);
+    let mut members = Members::with_capacity(alloc, TARGET_FIELDS)?;
     put_text(
         alloc,
         &mut members,
@@ -137,7 +143,7 @@ pub fn target_members(alloc: Global, target: &Target) -> Result<Members, AllocEr
 fn target_jsons(alloc: Global, targets: &Seq<Target>) -> Result<Seq<Json>, AllocError>
     ensures { IfOk result (λ js. js ≡ map target_json targets.now) }
 {
-    let mut jsons = Seq::new(alloc);
+    let mut jsons = Seq::with_capacity(alloc, targets.len())?;
     for target in targets.as_slice() {
         let members = target_members(alloc, target)?;
         jsons.push(Json::Obj(members))?;

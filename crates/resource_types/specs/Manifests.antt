@@ -1,5 +1,5 @@
 -- Manifests of objects.
-use Rattle.std.specs.Prelude.{ℕ, List, [], codes}
+use Rattle.std.specs.Prelude.{ℕ, List, [], codes, Option, Some, None}
 use Rattle.std.specs.Fmt.{decimal}
 use Rattle.resource_types.specs.declared.names.Kind.{Kind}
 use Rattle.resource_types.specs.declared.names.Kind.TheVariants as kind
@@ -30,6 +30,13 @@ abbrev pub object_kind : ClientKind → Kind
 object_kind client.Service = kind.Service
 object_kind client.Configuration = kind.Configuration
 object_kind client.Route = kind.Route
+
+-- the kind of objects as one that clients write
+abbrev pub client_kind : Kind → Option ClientKind
+client_kind kind.Service = Some client.Service
+client_kind kind.Configuration = Some client.Configuration
+client_kind kind.Route = Some client.Route
+client_kind other = None
 
 -- the word of a kind that clients write
 abbrev pub kind_text : ClientKind → List ℕ

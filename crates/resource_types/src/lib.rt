@@ -17,7 +17,9 @@ mod specification;
 mod status;
 
 pub use conditions::{CondName, Condition, Part, Truth};
-pub use lookups::{current, in_use, is_free, latest_created, latest_ready, owner_stands, standing};
+pub use lookups::{
+    current, in_use, is_free, latest_created, latest_ready, object_at, owner_stands, standing,
+};
 pub use manifests::{Manifest, ManifestSpec, api_version, decimal_text, manifest_of};
 pub use metadata::{Labels, Meta, Owner};
 pub use names::{Actor, ClientKind, Controller, Key, Kind, Name, SlotKey};

@@ -48,8 +48,8 @@ pub fn standing<'a>(
     store.find(&Sought { kind, space, name })
 }
 
-// The object at the place among those of the kind.
-fn object_at(store: &Store<Object>, kind: Kind, place: u64) -> &Object
+/// The object of a kind at a place, counted from 0 in order of name: the place lies below the count of the kind.
+pub fn object_at(store: &Store<Object>, kind: Kind, place: u64) -> &Object
     requires { place < length (of_kind kind (state store.now.entries)) }
     ensures { slice_get (of_kind kind (state store.now.entries)) place ≡ Some result.now }
 {

@@ -7,6 +7,7 @@ ghost use Rattle.resource_types.specs.Manifests.{api_version, manifest_spec, man
 use crate::metadata::Labels;
 use crate::objects::{Body, Object};
 use crate::specification::{Target, Template};
+use itoa::Buffer;
 use json_tree::{Alike, Copied, Seq, Text};
 use std::alloc::{AllocError, Global};
 
@@ -64,8 +65,8 @@ pub fn api_version() -> &'static str
 pub fn decimal_text(alloc: Global, number: u64) -> Result<Text, AllocError>
     ensures { IfOk result (λ text. text ≡ decimal number) }
 {
-    let digits: String = format!(in alloc; "{number}")?;
-    Text::new(alloc, digits.as_str())
+    let mut digits = Buffer::new();
+    Text::new(alloc, digits.format(number))
 }
 
 fn manifest_spec(alloc: Global, body: &Body) -> Result<ManifestSpec, AllocError>

@@ -1,6 +1,6 @@
 //! Kinds, names, and what is found by them.
 ghost use Rattle.std.specs.Prelude.{◌≡◌};
-ghost use Rattle.resource_types.specs.Manifests.{kind_word, kind_text, object_kind};
+ghost use Rattle.resource_types.specs.Manifests.{kind_word, kind_text, object_kind, client_kind};
 
 use json_tree::{Alike, Copied, Text};
 use std::alloc::{AllocError, Global};
@@ -100,6 +100,18 @@ impl Kind {
             Kind::Route => "Route",
             Kind::Health => "Health",
             Kind::Table => "Table",
+        }
+    }
+
+    /// The kind as one that clients create and replace. `None` for the other three.
+    pub fn client_kind(self) -> Option<ClientKind>
+        ensures { result ≡ client_kind self }
+    {
+        match self {
+            Kind::Service => Some(ClientKind::Service),
+            Kind::Configuration => Some(ClientKind::Configuration),
+            Kind::Route => Some(ClientKind::Route),
+            _ => None,
         }
     }
 }

@@ -2,7 +2,7 @@
 ghost use Rattle.std.specs.Prelude.{◌≡◌, IfOk};
 ghost use Rattle.serve_names.specs.Generated.{generated_bytes};
 
-use crate::padding::five_digits;
+use crate::padding::push_five_digits;
 use json_tree::Text;
 use std::alloc::{AllocError, Global};
 
@@ -13,6 +13,6 @@ pub fn generated_name(alloc: Global, base: &Text, generation: u64) -> Result<Tex
 {
     let mut name = String::from_str(alloc, base.as_str())?;
     name.push_str("-")?;
-    name.push_str(five_digits(alloc, generation)?.as_str())?;
-    Text::new(alloc, name.as_str())
+    push_five_digits(&mut name, generation)?;
+    Ok(Text::from_string(name))
 }

@@ -3,16 +3,20 @@ ghost use Rattle.std.specs.Prelude.{◌≡◌, ◌≤◌, ◌<◌, ◌++◌, pos
 ghost use Rattle.jiff.specs.Words.{epoch_day, date_text};
 ghost use Rattle.serve_names.specs.Moments.{IsMomentText, moment_bytes, clock_text, last_moment};
 
-use crate::padding::two_digits;
+use crate::padding::push_two_digits;
 use jiff::ToSpan;
 use jiff::civil::{Date, date};
 use json_tree::Text;
 use std::alloc::{AllocError, Global};
+use std::fmt::Write;
 
 /// The last moment that has a text: 9999-12-31T23:59:59Z.
 pub(crate) const LAST_MOMENT: u64 = 253_402_300_799;
 
 const SECONDS_OF_DAY: u64 = 86_400;
+
+/// The length of a moment's text.
+const TEXT_LEN: usize = 20;
 
 /// The date that many days after 1970-01-01.
 fn date_after(days: u64) -> Date
@@ -22,24 +26,24 @@ fn date_after(days: u64) -> Date
     date(1970, 1, 1) + (days as i64).days()
 }
 
-/// The date as `2024-05-01`.
-fn date_digits(alloc: Global, date: Date) -> Result<String, AllocError>
-    ensures { IfOk result (λ s. string_bytes s ≡ date_text date) }
+/// Adds the date, as `2024-05-01`.
+fn push_date(text: &mut String, date: Date) -> Result<(), AllocError>
+    ensures { OnOk result (string_bytes text.new ≡ string_bytes text.old ++ date_text date) }
 {
-    format!(in alloc; "{date}")
+    write!(text, "{date}")
 }
 
 /// Adds the time of day: `T`, and then as `10:00:00Z`.
-fn push_clock(alloc: Global, text: &mut String, second: u64) -> Result<(), AllocError>
+fn push_clock(text: &mut String, second: u64) -> Result<(), AllocError>
     requires { second < 86_400 }
     ensures { OnOk result (string_bytes text.new ≡ string_bytes text.old ++ clock_text second) }
 {
     text.push_str("T")?;
-    text.push_str(two_digits(alloc, second / 3_600)?.as_str())?;
+    push_two_digits(text, second / 3_600)?;
     text.push_str(":")?;
-    text.push_str(two_digits(alloc, second / 60 % 60)?.as_str())?;
+    push_two_digits(text, second / 60 % 60)?;
     text.push_str(":")?;
-    text.push_str(two_digits(alloc, second % 60)?.as_str())?;
+    push_two_digits(text, second % 60)?;
     text.push_str("Z")?;
     Ok(())
 }
@@ -55,7 +59,8 @@ pub fn moment_text(alloc: Global, moment: u64) -> Result<Text, AllocError>
     ensures text { IfOk result (λ t. t ≡ moment_bytes moment) }
     ensures civil { IfOk result (λ t. IsMomentText moment t) }
 {
-    let mut text = date_digits(alloc, date_after(moment / SECONDS_OF_DAY))?;
-    push_clock(alloc, &mut text, moment % SECONDS_OF_DAY)?;
+    let mut text = String::with_capacity(alloc, TEXT_LEN)?;
+    push_date(&mut text, date_after(moment / SECONDS_OF_DAY))?;
+    push_clock(&mut text, moment % SECONDS_OF_DAY)?;
     Text::new(alloc, text.as_str())
 }

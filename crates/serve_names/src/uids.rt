@@ -7,7 +7,7 @@ ghost use Rattle.std.specs.Str.Parse.{digits_value};
 ghost use Rattle.serve_names.specs.Padding.{at_least};
 ghost use Rattle.serve_names.specs.Uids as spec;
 
-use crate::padding::twelve_hex_digits;
+use crate::padding::push_twelve_hex_digits;
 use crate::same::is_same;
 use json_tree::Text;
 use std::alloc::{AllocError, Global};
@@ -15,15 +15,19 @@ use std::alloc::{AllocError, Global};
 /// How many bytes stand before the number.
 const PREFIX_LEN: usize = 24;
 
+/// The most bytes of a uid: sixteen digits behind the prefix.
+const MOST_LEN: usize = PREFIX_LEN + 16;
+
 /// The uid as a text: `00000000-0000-4000-8000-` and the number in lower-case hexadecimal, with
 /// zeros before it to twelve digits at least.
 #[tactic(auto, unfolding(crate::specs::Uids::uid_bytes))]
 pub fn uid_text(alloc: Global, uid: u64) -> Result<Text, AllocError>
     ensures { IfOk result (λ text. text ≡ spec.uid_bytes uid) }
 {
-    let mut text = String::from_str(alloc, "00000000-0000-4000-8000-")?;
-    text.push_str(twelve_hex_digits(alloc, uid)?.as_str())?;
-    Text::new(alloc, text.as_str())
+    let mut text = String::with_capacity(alloc, MOST_LEN)?;
+    text.push_str("00000000-0000-4000-8000-")?;
+    push_twelve_hex_digits(&mut text, uid)?;
+    Ok(Text::from_string(text))
 }
 
 fn is_hex_digit(byte: u8) -> bool
