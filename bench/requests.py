@@ -1,6 +1,8 @@
 #!/usr/bin/env python3
 """Makes a stream of mixed client requests over some objects, runs the built program on it, and prints how fast it answered.
 
+Both the requests and the replies are files, so that no other program is waited for.
+
 usage: bench/requests.py PROGRAM [REQUESTS [OBJECTS]]
 
 The requests are 20,000 over 200 objects unless given: half of them GETs of one object, the others PUTs, PATCHes, lists, polls,
@@ -76,17 +78,19 @@ def requests(count, objects):
 
 def main(program, count=20000, objects=200):
     made = requests(int(count), int(objects))
-    with tempfile.TemporaryFile() as stream:
+    with tempfile.TemporaryFile() as stream, tempfile.TemporaryFile() as replies:
         for one in made:
             stream.write(one)
         size = stream.tell()
         stream.seek(0)
         begin = time.monotonic()
-        run = subprocess.run([program, "replay"], stdin=stream, capture_output=True, check=False)
+        run = subprocess.run([program, "replay"], stdin=stream, stdout=replies, check=False)
         took = time.monotonic() - begin
-    refused = run.stdout.count(b'"status":"Failure"')
+        replies.seek(0)
+        output = replies.read()
+    refused = output.count(b'"status":"Failure"')
     peak = resource.getrusage(resource.RUSAGE_CHILDREN).ru_maxrss / 1024
-    print(f"{len(made)} requests ({size / 1e6:.1f} MB in, {len(run.stdout) / 1e6:.1f} MB out, {refused} refused): "
+    print(f"{len(made)} requests ({size / 1e6:.1f} MB in, {len(output) / 1e6:.1f} MB out, {refused} refused): "
           f"{took:.3f} s, {len(made) / took:,.0f} a second, {peak:.0f} MB at most")
     return run.returncode
 

@@ -39,7 +39,7 @@ impl<T> Table<T> {
         }
     }
 
-    /// A table with no pairs, and memory for so many: putting these takes no memory for the table itself.
+    /// A table with no pairs that takes its memory for so many at once. Contracts see the pairs alone.
     pub fn with_capacity(alloc: Global, capacity: usize) -> Result<Table<T>, AllocError>
         ensures { IfOk result (λ table. table.entries ≡ []) }
     {

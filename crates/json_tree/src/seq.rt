@@ -34,7 +34,7 @@ impl<T> Seq<T> {
         }
     }
 
-    /// A list with no items, and memory for so many: pushing these takes none.
+    /// A list with no items that takes its memory for so many at once. Contracts see the list alone.
     pub fn with_capacity(alloc: Global, capacity: usize) -> Result<Seq<T>, AllocError>
         ensures { IfOk result (λ list. list ≡ []) }
     {

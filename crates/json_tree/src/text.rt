@@ -25,8 +25,8 @@ enum Kept {
 
 /// A text of its own. Contracts see it as the list of its bytes, which are always UTF-8.
 ///
-/// `==` and `<` compare the bytes, so two texts are equal exactly where contracts see the same list. A text of at most
-/// 24 bytes takes no memory.
+/// `==` and `<` compare the bytes, so two texts are equal exactly where contracts see the same list. At most 24 bytes that
+/// are copied into one lie in the value itself.
 #[derive(Debug)]
 pub struct Text {
     kept: Kept,

@@ -1,6 +1,7 @@
 pub mod Loop
 pub mod Texts
 pub mod PutLemmas
+pub mod InOrder
 pub mod Sounds
 pub mod Inner
 pub mod Again

@@ -9,11 +9,6 @@ use Rattle.resource_codec.specs.declared.fields.DecodeError.TheVariants as error
 use Rattle.resource_codec.specs.Reading.{◌>>=◌, IsFault}
 use Rattle.resource_codec.specs.Shape.{target_in, targets_in}
 
--- a fault at which reading begins is the fault of all that is read
-pub passes_on : {A B : Type 0} (e : DecodeError) (read : Result A Field) (more : A → Result B Field) → IsFault e read → IsFault e (read >>= more)
-passes_on error.Memory read more fault = tt
-passes_on (error.Shape field) read more fault = rw fault refl
-
 abbrev pub with_front : List Target → Result (List Target) Field → Result (List Target) Field
 with_front front read = read >>= λ (ts : List Target). Ok (front ++ ts)
 

@@ -1,5 +1,5 @@
 -- Manifests as JSON: the fields of each part, each put at its place in the order of names.
-use Rattle.std.specs.Prelude.{◌≡◌, ◌≤◌, ◌≢◌, ℕ, Bool, true, List, [], ◌∷◌, codes, Option, Some, None, map, option_map}
+use Rattle.std.specs.Prelude.{◌++◌, ◌≡◌, ◌≤◌, ◌≢◌, ℕ, Bool, true, List, [], ◌∷◌, codes, Option, Some, None, map, option_map}
 use Rattle.std.specs.List.{list_all}
 use Rattle.json_tree.specs.declared.value.Json.{Json, Bool as truth_of, Nat, Str, Arr, Obj}
 use Rattle.json_tree.specs.declared.members.Table.{Table}
@@ -23,6 +23,11 @@ Field = List ℕ × Option Json
 unfoldable pub put_field : List ℕ → Option Json → List Member → List Member
 put_field name None members = members
 put_field name (Some json) members = put_entry name json members
+
+-- the members with the value, if there is one, under the name behind all others
+unfoldable pub add_field : List ℕ → Option Json → List Member → List Member
+add_field name None members = members
+add_field name (Some json) members = members ++ (name, json) ∷ []
 
 -- the fields, each put at its place in the order of names
 abbrev pub put_fields : List Field → List Member → List Member

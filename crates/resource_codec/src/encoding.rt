@@ -6,7 +6,7 @@ ghost use Rattle.resource_codec.specs.Written.{metadata_members, manifest_metada
 ghost use Rattle.resource_codec.specs.Shape.{shape};
 ghost use Rattle.resource_codec.specs.Sound.{RestOfSpecFits};
 
-use crate::puts::{put_text, put_texts};
+use crate::adding::{add_text, add_texts};
 use crate::writing::{configuration_spec, document, route_spec, service_spec};
 use json_tree::{Json, Members, have_same_text};
 use resource_types::{Manifest, ManifestSpec};
@@ -33,16 +33,15 @@ pub fn encode_manifest(alloc: Global, manifest: &Manifest) -> Result<Json, Alloc
     document(alloc, api, kind, metadata, spec, None)
 }
 
-#[tactic(auto, unfolding(crate::specs::Written::metadata_members, crate::specs::Written::put_field))]
 fn manifest_metadata(alloc: Global, manifest: &Manifest) -> Result<Members, AllocError>
     ensures { IfOk result (λ m. m.entries ≡ metadata_members (manifest_metadata manifest.now)) }
 {
     let mut members = Members::new(alloc);
-    put_texts(alloc, &mut members, "annotations", &manifest.annotations)?;
-    put_texts(alloc, &mut members, "labels", &manifest.labels)?;
-    put_text(alloc, &mut members, "name", &manifest.name)?;
-    put_text(alloc, &mut members, "namespace", &manifest.namespace)?;
-    put_text(alloc, &mut members, "resourceVersion", &manifest.version)?;
+    add_texts(alloc, &mut members, "annotations", &manifest.annotations)?;
+    add_texts(alloc, &mut members, "labels", &manifest.labels)?;
+    add_text(alloc, &mut members, "name", &manifest.name)?;
+    add_text(alloc, &mut members, "namespace", &manifest.namespace)?;
+    add_text(alloc, &mut members, "resourceVersion", &manifest.version)?;
     Ok(members)
 }
 

@@ -7,7 +7,7 @@ ghost use Rattle.resource_codec.specs.Objects.{IsWellObject};
 ghost use Rattle.resource_codec.specs.Lists.{put_type, put_event, removal_namespace, removal_event, poll_members};
 
 use crate::objects::encode;
-use crate::puts::{put, put_made, put_text, put_word};
+use crate::adding::{add, add_made, add_text, add_word};
 use crate::tables::other_namespace;
 use json_tree::{Json, Members, Seq};
 use resource_types::{Key, Kind, Object, decimal_text};
@@ -28,14 +28,13 @@ fn put_type(made: bool) -> &'static str
     if made { "ADDED" } else { "MODIFIED" }
 }
 
-#[tactic(auto, unfolding(crate::specs::Lists::put_event))]
 fn put_members(alloc: Global, object: &Object, made: bool) -> Result<Members, AllocError>
     ensures { IfOk result (λ m. m.entries ≡ put_event object.now made) }
 {
     let mut members = Members::new(alloc);
     let shown = encode(alloc, object)?;
-    put(alloc, &mut members, "object", shown)?;
-    put_word(alloc, &mut members, "type", put_type(made))?;
+    add(alloc, &mut members, "object", shown)?;
+    add_word(alloc, &mut members, "type", put_type(made))?;
     Ok(members)
 }
 
@@ -58,16 +57,15 @@ fn removal_namespace(key: &Key) -> &str
     }
 }
 
-#[tactic(auto, unfolding(crate::specs::Lists::removal_event))]
 fn removal_members(alloc: Global, key: &Key, version: u64) -> Result<Members, AllocError>
     ensures { IfOk result (λ m. m.entries ≡ removal_event key.now version) }
 {
     let mut members = Members::new(alloc);
-    put_text(alloc, &mut members, "name", &key.name.name)?;
-    put_word(alloc, &mut members, "namespace", removal_namespace(key))?;
+    add_text(alloc, &mut members, "name", &key.name.name)?;
+    add_word(alloc, &mut members, "namespace", removal_namespace(key))?;
     let digits = decimal_text(alloc, version)?;
-    put_made(alloc, &mut members, "resourceVersion", digits)?;
-    put_word(alloc, &mut members, "type", "DELETED")?;
+    add_made(alloc, &mut members, "resourceVersion", digits)?;
+    add_word(alloc, &mut members, "type", "DELETED")?;
     Ok(members)
 }
 
@@ -80,14 +78,13 @@ pub fn poll_form(alloc: Global, events: Seq<Json>, version: u64) -> Result<Json,
     Ok(Json::Obj(poll_members(alloc, events, version)?))
 }
 
-#[tactic(auto, unfolding(crate::specs::Lists::poll_members))]
 fn poll_members(alloc: Global, events: Seq<Json>, version: u64) -> Result<Members, AllocError>
     ensures { IfOk result (λ m. m.entries ≡ poll_members events version) }
 {
     let mut members = Members::new(alloc);
-    put(alloc, &mut members, "events", Json::Arr(events))?;
-    put_word(alloc, &mut members, "kind", "Poll")?;
+    add(alloc, &mut members, "events", Json::Arr(events))?;
+    add_word(alloc, &mut members, "kind", "Poll")?;
     let digits = decimal_text(alloc, version)?;
-    put_made(alloc, &mut members, "resourceVersion", digits)?;
+    add_made(alloc, &mut members, "resourceVersion", digits)?;
     Ok(members)
 }

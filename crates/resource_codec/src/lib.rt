@@ -4,6 +4,7 @@
 //! Want of memory is an answer of each call that takes memory, and changes nothing.
 #![tactic(auto)]
 
+mod adding;
 mod decoding;
 mod encoding;
 mod events;
@@ -11,7 +12,6 @@ mod fields;
 mod lists;
 mod objects;
 mod polls;
-mod puts;
 mod reading;
 mod revisions;
 mod standing;

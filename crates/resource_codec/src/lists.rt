@@ -6,7 +6,7 @@ ghost use Rattle.json_tree.specs.Tree.{is_well_formed, depth_of, items_data, ite
 ghost use Rattle.resource_codec.specs.Written.{object_of};
 ghost use Rattle.resource_codec.specs.Lists.{list_metadata, object_list, table_list, list_members};
 
-use crate::puts::{put, put_made, put_word};
+use crate::adding::{add, add_made, add_word};
 use json_tree::{Json, Members, Seq, Text};
 use resource_types::{Kind, api_version, decimal_text};
 use std::alloc::{AllocError, Global};
@@ -42,19 +42,17 @@ fn list_members(
     }
 }
 
-#[tactic(auto, unfolding(crate::specs::Lists::table_list))]
 fn table_list(alloc: Global, items: Seq<Json>, version: u64) -> Result<Members, AllocError>
     ensures { IfOk result (λ m. m.entries ≡ table_list items version) }
 {
     let mut members = Members::new(alloc);
-    put(alloc, &mut members, "items", Json::Arr(items))?;
-    put_word(alloc, &mut members, "kind", "TableList")?;
+    add(alloc, &mut members, "items", Json::Arr(items))?;
+    add_word(alloc, &mut members, "kind", "TableList")?;
     let digits = decimal_text(alloc, version)?;
-    put_made(alloc, &mut members, "resourceVersion", digits)?;
+    add_made(alloc, &mut members, "resourceVersion", digits)?;
     Ok(members)
 }
 
-#[tactic(auto, unfolding(crate::specs::Lists::object_list))]
 fn object_list(
     alloc: Global,
     kind: Kind,
@@ -64,12 +62,12 @@ fn object_list(
     ensures { IfOk result (λ m. m.entries ≡ object_list kind items version) }
 {
     let mut members = Members::new(alloc);
-    put_word(alloc, &mut members, "apiVersion", api_version())?;
-    put(alloc, &mut members, "items", Json::Arr(items))?;
+    add_word(alloc, &mut members, "apiVersion", api_version())?;
+    add(alloc, &mut members, "items", Json::Arr(items))?;
     let word = list_word(alloc, kind)?;
-    put_made(alloc, &mut members, "kind", word)?;
+    add_made(alloc, &mut members, "kind", word)?;
     let metadata = list_metadata(alloc, version)?;
-    put(alloc, &mut members, "metadata", Json::Obj(metadata))?;
+    add(alloc, &mut members, "metadata", Json::Obj(metadata))?;
     Ok(members)
 }
 
@@ -82,12 +80,11 @@ fn list_word(alloc: Global, kind: Kind) -> Result<Text, AllocError>
     Ok(Text::from_string(word))
 }
 
-#[tactic(auto, unfolding(crate::specs::Lists::list_metadata))]
 fn list_metadata(alloc: Global, version: u64) -> Result<Members, AllocError>
     ensures { IfOk result (λ m. m.entries ≡ list_metadata version) }
 {
     let mut members = Members::new(alloc);
     let digits = decimal_text(alloc, version)?;
-    put_made(alloc, &mut members, "resourceVersion", digits)?;
+    add_made(alloc, &mut members, "resourceVersion", digits)?;
     Ok(members)
 }

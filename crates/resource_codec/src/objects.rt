@@ -6,7 +6,7 @@ ghost use Rattle.resource_codec.specs.Shape.{shape};
 ghost use Rattle.resource_codec.specs.Written.{metadata_members, pod_members, kind_of, IsRegular};
 ghost use Rattle.resource_codec.specs.Objects.{owner_members, owners_of, object_metadata, object_document, shown_labels, shown_annotations, encoded, IsClientBody, IsWellObject};
 
-use crate::puts::{put_array, put_made, put_number, put_text, put_texts, put_truth, put_word};
+use crate::adding::{add_array, add_made, add_number, add_text, add_texts, add_truth, add_word};
 use crate::revisions::{shown_annotations, shown_labels};
 use crate::statuses::{shown_moment, status_members};
 use crate::tables::table_members;
@@ -131,19 +131,19 @@ fn object_metadata(
 {
     let mut members = Members::with_capacity(alloc, METADATA_FIELDS)?;
     let stamp = object.meta.stamp;
-    put_texts(alloc, &mut members, "annotations", annotations)?;
+    add_texts(alloc, &mut members, "annotations", annotations)?;
     let created = shown_moment(alloc, stamp.created)?;
-    put_made(alloc, &mut members, "creationTimestamp", created)?;
-    put_number(alloc, &mut members, "generation", Some(stamp.generation))?;
-    put_texts(alloc, &mut members, "labels", labels)?;
-    put_text(alloc, &mut members, "name", &object.key.name.name)?;
-    put_text(alloc, &mut members, "namespace", &object.key.name.space)?;
+    add_made(alloc, &mut members, "creationTimestamp", created)?;
+    add_number(alloc, &mut members, "generation", Some(stamp.generation))?;
+    add_texts(alloc, &mut members, "labels", labels)?;
+    add_text(alloc, &mut members, "name", &object.key.name.name)?;
+    add_text(alloc, &mut members, "namespace", &object.key.name.space)?;
     let owners = owner_jsons(alloc, &object.meta.owner)?;
-    put_array(alloc, &mut members, "ownerReferences", owners)?;
+    add_array(alloc, &mut members, "ownerReferences", owners)?;
     let version = decimal_text(alloc, stamp.version)?;
-    put_made(alloc, &mut members, "resourceVersion", version)?;
+    add_made(alloc, &mut members, "resourceVersion", version)?;
     let uid = uid_text(alloc, stamp.uid)?;
-    put_made(alloc, &mut members, "uid", uid)?;
+    add_made(alloc, &mut members, "uid", uid)?;
     Ok(members)
 }
 
@@ -162,11 +162,11 @@ fn owner_members(alloc: Global, owner: &Owner) -> Result<Members, AllocError>
     ensures { IfOk result (λ m. m.entries ≡ owner_members owner.now) }
 {
     let mut members = Members::new(alloc);
-    put_word(alloc, &mut members, "apiVersion", api_version())?;
-    put_truth(alloc, &mut members, "controller", Some(true))?;
-    put_word(alloc, &mut members, "kind", owner.kind.as_str())?;
-    put_text(alloc, &mut members, "name", &owner.name)?;
+    add_word(alloc, &mut members, "apiVersion", api_version())?;
+    add_truth(alloc, &mut members, "controller", Some(true))?;
+    add_word(alloc, &mut members, "kind", owner.kind.as_str())?;
+    add_text(alloc, &mut members, "name", &owner.name)?;
     let uid = uid_text(alloc, owner.uid)?;
-    put_made(alloc, &mut members, "uid", uid)?;
+    add_made(alloc, &mut members, "uid", uid)?;
     Ok(members)
 }

@@ -2,7 +2,7 @@
 ghost use Rattle.std.specs.Prelude.{◌≡◌, IfOk, map};
 ghost use Rattle.resource_codec.specs.Objects.{shown_moment, truth_word, condition_word, severity_word, condition_members, condition_json, published_members, published_json, observed_generation, status_members};
 
-use crate::puts::{put_array, put_made, put_number, put_text, put_word};
+use crate::adding::{add_array, add_made, add_number, add_text, add_word};
 use crate::writing::target_members;
 use json_tree::{Json, Members, Seq, Text};
 use resource_types::{CondName, Condition, ObjectStatus, Target, Truth};
@@ -59,17 +59,17 @@ fn condition_members(alloc: Global, condition: &Condition) -> Result<Members, Al
 {
     let mut members = Members::with_capacity(alloc, CONDITION_FIELDS)?;
     let since = shown_moment(alloc, condition.since)?;
-    put_made(alloc, &mut members, "lastTransitionTime", since)?;
-    put_text(alloc, &mut members, "message", &condition.message)?;
-    put_text(alloc, &mut members, "reason", &condition.reason)?;
-    put_word(
+    add_made(alloc, &mut members, "lastTransitionTime", since)?;
+    add_text(alloc, &mut members, "message", &condition.message)?;
+    add_text(alloc, &mut members, "reason", &condition.reason)?;
+    add_word(
         alloc,
         &mut members,
         "severity",
         severity_word(condition.info),
     )?;
-    put_word(alloc, &mut members, "status", truth_word(condition.truth))?;
-    put_word(alloc, &mut members, "type", condition_word(condition.name))?;
+    add_word(alloc, &mut members, "status", truth_word(condition.truth))?;
+    add_word(alloc, &mut members, "type", condition_word(condition.name))?;
     Ok(members)
 }
 
@@ -84,12 +84,11 @@ fn condition_jsons(alloc: Global, conditions: &Seq<Condition>) -> Result<Seq<Jso
     Ok(jsons)
 }
 
-#[tactic(auto, unfolding(crate::specs::Objects::published_members))]
 fn published_members(alloc: Global, target: &Target) -> Result<Members, AllocError>
     ensures { IfOk result (λ m. m.entries ≡ published_members target.now) }
 {
     let mut members = target_members(alloc, target)?;
-    put_text(alloc, &mut members, "url", &target.url)?;
+    add_text(alloc, &mut members, "url", &target.url)?;
     Ok(members)
 }
 
@@ -121,23 +120,23 @@ pub fn status_members(alloc: Global, status: &ObjectStatus) -> Result<Members, A
 {
     let mut members = Members::new(alloc);
     let conditions = condition_jsons(alloc, &status.conditions)?;
-    put_array(alloc, &mut members, "conditions", conditions)?;
-    put_text(
+    add_array(alloc, &mut members, "conditions", conditions)?;
+    add_text(
         alloc,
         &mut members,
         "latestCreatedRevisionName",
         &status.created,
     )?;
-    put_text(
+    add_text(
         alloc,
         &mut members,
         "latestReadyRevisionName",
         &status.ready,
     )?;
     let observed = observed_generation(status.observed);
-    put_number(alloc, &mut members, "observedGeneration", observed)?;
+    add_number(alloc, &mut members, "observedGeneration", observed)?;
     let traffic = published_jsons(alloc, &status.traffic)?;
-    put_array(alloc, &mut members, "traffic", traffic)?;
-    put_text(alloc, &mut members, "url", &status.url)?;
+    add_array(alloc, &mut members, "traffic", traffic)?;
+    add_text(alloc, &mut members, "url", &status.url)?;
     Ok(members)
 }

@@ -2,7 +2,7 @@
 ghost use Rattle.std.specs.Prelude.{◌≡◌, IfOk, map};
 ghost use Rattle.resource_codec.specs.Objects.{row_members, row_json, other_namespace, table_members};
 
-use crate::puts::{put_array, put_made, put_number, put_text, put_word};
+use crate::adding::{add_array, add_made, add_number, add_text, add_word};
 use crate::statuses::published_jsons;
 use json_tree::{Json, Members, Seq};
 use resource_types::{Object, Row, Target, decimal_text};
@@ -13,12 +13,12 @@ fn row_members(alloc: Global, row: &Row) -> Result<Members, AllocError>
     ensures { IfOk result (λ m. m.entries ≡ row_members row.now) }
 {
     let mut members = Members::new(alloc);
-    put_text(alloc, &mut members, "host", &row.host)?;
-    put_number(alloc, &mut members, "percent", Some(row.percent))?;
-    put_text(alloc, &mut members, "revisionName", &row.revision)?;
+    add_text(alloc, &mut members, "host", &row.host)?;
+    add_number(alloc, &mut members, "percent", Some(row.percent))?;
+    add_text(alloc, &mut members, "revisionName", &row.revision)?;
     let uid = uid_text(alloc, row.uid)?;
-    put_made(alloc, &mut members, "revisionUid", uid)?;
-    put_text(alloc, &mut members, "tag", &row.tag)?;
+    add_made(alloc, &mut members, "revisionUid", uid)?;
+    add_text(alloc, &mut members, "tag", &row.tag)?;
     Ok(members)
 }
 
@@ -51,17 +51,17 @@ pub fn table_members(
     ensures { IfOk result (λ m. m.entries ≡ table_members object.now route rows.now targets.now) }
 {
     let mut members = Members::new(alloc);
-    put_word(alloc, &mut members, "kind", "Table")?;
-    put_text(alloc, &mut members, "name", &object.key.name.name)?;
+    add_word(alloc, &mut members, "kind", "Table")?;
+    add_text(alloc, &mut members, "name", &object.key.name.name)?;
     let space = other_namespace(object.key.name.space.as_str());
-    put_word(alloc, &mut members, "namespace", space)?;
+    add_word(alloc, &mut members, "namespace", space)?;
     let version = decimal_text(alloc, object.meta.stamp.version)?;
-    put_made(alloc, &mut members, "resourceVersion", version)?;
+    add_made(alloc, &mut members, "resourceVersion", version)?;
     let uid = uid_text(alloc, route)?;
-    put_made(alloc, &mut members, "routeUid", uid)?;
+    add_made(alloc, &mut members, "routeUid", uid)?;
     let row_items = row_jsons(alloc, rows)?;
-    put_array(alloc, &mut members, "rows", row_items)?;
+    add_array(alloc, &mut members, "rows", row_items)?;
     let target_items = published_jsons(alloc, targets)?;
-    put_array(alloc, &mut members, "targets", target_items)?;
+    add_array(alloc, &mut members, "targets", target_items)?;
     Ok(members)
 }

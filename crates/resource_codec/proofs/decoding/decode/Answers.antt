@@ -1,9 +1,6 @@
 use Rattle.std.proofs.Common.{◌-◌, codes, arith}
 use Rattle.json_tree.specs.Tree.{depth_of}
 use Rattle.resource_codec.specs.declared.fields.Field.TheVariants as field
-use Rattle.std.proofs.lemmas.Result.{err_from_is_err_and}
-use Rattle.resource_codec.specs.Shape.{shape}
-use Rattle.resource_codec.proofs.Loop.{passes_on}
 use Rattle.resource_codec.proofs.Inner.{object_inside, under_inside, three_less, texts_rise}
 use Rattle.resource_codec.proofs.decoding.decode.Goals as goal
 
@@ -28,10 +25,3 @@ returns-clause-rise c well =
         c.in_ok-spec.ensures.rise (n - 1 - 1) members.1,
       ),
     )
-
-pub returns-in_err-members-clause-shape : goal.returns-in_err-members-clause-shape
-unfolding shape
-returns-in_err-members-clause-shape c =
-    let p = err_from_is_err_and c.from_residual-in_err-members.result c.from_residual-in_err-members.ensures.1 in
-    rw (p.1, p.2, c.in_ok-object.ensures, c.in_ok-api.ensures, c.in_ok-kind_name.ensures, c.in_ok-object_under.ensures, c.in_ok-name.ensures, c.in_ok-namespace.ensures, c.in_ok-version.ensures, c.in_ok-labels.ensures, c.in_ok-annotations.ensures)
-    (passes_on c.in_err-members.field-0.0 _ _ c.in_err-members.ensures)
