@@ -81,10 +81,10 @@ pub address_behind : (t : Target) → add_field (codes "url") (text_field t.url)
 unfolding target_members published_members
 address_behind t =
     ap (add_field (codes "url") (text_field t.url)) (sym (in_order (target_fields t) refl))
-        ∙ in_order (
-            (codes "configurationName", text_field t.configuration) ∷
-            (codes "latestRevision", truth_field t.latest) ∷
-            (codes "percent", number_field t.percent) ∷
-            (codes "revisionName", text_field t.revision) ∷
-            (codes "tag", text_field t.tag) ∷
-            (codes "url", text_field t.url) ∷ []) refl
+    ∙ in_order (
+    (codes "configurationName", text_field t.configuration) ∷
+    (codes "latestRevision", truth_field t.latest) ∷
+    (codes "percent", number_field t.percent) ∷
+    (codes "revisionName", text_field t.revision) ∷
+    (codes "tag", text_field t.tag) ∷
+    (codes "url", text_field t.url) ∷ []) refl

@@ -6,8 +6,8 @@ ghost use Rattle.resource_codec.specs.Written.{object_of};
 ghost use Rattle.resource_codec.specs.Objects.{IsWellObject};
 ghost use Rattle.resource_codec.specs.Lists.{put_type, put_event, removal_namespace, removal_event, poll_members};
 
-use crate::objects::encode;
 use crate::adding::{add, add_made, add_text, add_word};
+use crate::objects::encode;
 use crate::tables::other_namespace;
 use json_tree::{Json, Members, Seq};
 use resource_types::{Key, Kind, Object, decimal_text};
