@@ -1,7 +1,7 @@
 #!/usr/bin/env python3
 """Makes a stream of mixed client requests over some objects, runs the built program on it, and prints how fast it answered.
 
-Both the requests and the replies are files, so that no other program is waited for.
+Both the requests and the replies are files, so that no other program is waited for. The memory is the program's own, as GNU time tells it.
 
 usage: bench/requests.py PROGRAM [REQUESTS [OBJECTS]]
 
@@ -10,7 +10,6 @@ and DELETEs with a POST behind them. The stream is the same each time.
 """
 import json
 import random
-import resource
 import subprocess
 import sys
 import tempfile
@@ -78,18 +77,19 @@ def requests(count, objects):
 
 def main(program, count=20000, objects=200):
     made = requests(int(count), int(objects))
-    with tempfile.TemporaryFile() as stream, tempfile.TemporaryFile() as replies:
+    with tempfile.TemporaryFile() as stream, tempfile.TemporaryFile() as replies, tempfile.NamedTemporaryFile() as memory:
         for one in made:
             stream.write(one)
         size = stream.tell()
         stream.seek(0)
         begin = time.monotonic()
-        run = subprocess.run([program, "replay"], stdin=stream, stdout=replies, check=False)
+        timed = ["/usr/bin/time", "--quiet", "--format=%M", f"--output={memory.name}", program, "replay"]
+        run = subprocess.run(timed, stdin=stream, stdout=replies, check=False)
         took = time.monotonic() - begin
         replies.seek(0)
         output = replies.read()
+        peak = int(memory.read()) / 1024
     refused = output.count(b'"status":"Failure"')
-    peak = resource.getrusage(resource.RUSAGE_CHILDREN).ru_maxrss / 1024
     print(f"{len(made)} requests ({size / 1e6:.1f} MB in, {len(output) / 1e6:.1f} MB out, {refused} refused): "
           f"{took:.3f} s, {len(made) / took:,.0f} a second, {peak:.0f} MB at most")
     return run.returncode

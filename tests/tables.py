@@ -188,8 +188,7 @@ def rule_cases():
     yield "POST", f"{BLUE}/configurations", long, 422, "metadata.name: must be a DNS label of at most 42 bytes"
     for name, code in (("n-1", 201), ("n", 422), ("n-", 422), ("m-1", 422), ("n-" + "1" * 61, 201), ("n-" + "1" * 62, 422)):
         named = changed(manifest("Configuration", "n"), "spec.template.metadata.name", name)
-        named["metadata"]["namespace"] = ABSENT
-        named["metadata"].pop("namespace")
+        named["metadata"].pop("namespace", None)
         yield "POST", f"{ROOT}/n{len(name)}-{code}-{name[0]}/configurations", named, code, None
     pod = "spec.template.spec"
     counts = ((0, 422), (1, 201), (16, 201), (17, 422))
@@ -267,7 +266,7 @@ def queries():
             "?resourceVersion=9999999999999999999", "?labelSelector=a%3Db&limit=5")
     bad = ("?dryRun=All", "?dryRun=x&watch=1", "?a&dryRun==", "?watch", "?watch=", "?watch=2", "?watch=True", "?watch=1&watch=1",
            "?watch=0&watch=1", "?resourceVersion=1&resourceVersion=1", "?resourceVersion&resourceVersion", "?resourceVersion=x",
-           "?resourceVersion=-1", "?resourceVersion=+1", "?resourceVersion=12345678901234567890", "?watch=1=1", "?resourceVersion=1 ".strip() + "x")
+           "?resourceVersion=-1", "?resourceVersion=+1", "?resourceVersion=12345678901234567890", "?watch=1=1", "?resourceVersion=1x")
     for query in good:
         yield "GET", lists + query, "", 200, None
     for query in bad:
@@ -378,6 +377,8 @@ def stream(cases):
 
 
 def replies(out, cases):
+    """The replies, one for each case: code, head and body. Any other output is a ValueError."""
+    found = []
     at = 0
     for method, *_ in cases:
         end = out.index(b"\r\n\r\n", at) + 4
@@ -385,8 +386,10 @@ def replies(out, cases):
         length = int(head.split("Content-Length: ")[1].split("\r\n")[0])
         body = b"" if method == "HEAD" else out[end:end + length]
         at = end + len(body)
-        yield int(head.split(" ")[1]), head, body
-    assert at == len(out), "the program wrote more than these replies"
+        found.append((int(head.split(" ")[1]), head, body))
+    if at != len(out):
+        raise ValueError(f"{len(out) - at} bytes more than these replies")
+    return found
 
 
 def differs(case, reply):
@@ -413,11 +416,16 @@ def main(program):
     failed = 0
     for table in (shapes, rule_cases, paths, queries, calls, merges):
         cases = list(table())
-        run = subprocess.run([program, "replay"], input=stream(cases), capture_output=True, check=False)
+        run = subprocess.run([program, "replay"], input=stream(cases), capture_output=True, check=False, timeout=60)
         wrong = []
         if run.returncode != 0:
             wrong.append(f"status {run.returncode}: {run.stderr.decode()}")
-        for case, reply in zip(cases, replies(run.stdout, cases)):
+        try:
+            found = replies(run.stdout, cases)
+        except (ValueError, IndexError) as fault:
+            wrong.append(f"the output isn't a reply for each case: {fault}")
+            found = []
+        for case, reply in zip(cases, found):
             fault = differs(case, reply)
             if fault:
                 wrong.append(f"{case[0]} {case[1]} {json.dumps(case[2])[:300]}: {fault}")

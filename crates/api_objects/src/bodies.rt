@@ -16,7 +16,7 @@ use resource_types::{ClientKind, Kind, Manifest, Object, decimal_text};
 use std::alloc::{AllocError, Global};
 use validation::check_change;
 
-/// The value of a body that can be read.
+/// The value of a body, or that it is unreadable.
 pub fn readable(body: Option<Json>) -> Result<Json, Stop>
     requires { ForSome body IsReadable }
     ensures value { Comes result (spec.readable body) }
@@ -28,7 +28,7 @@ pub fn readable(body: Option<Json>) -> Result<Json, Stop>
     }
 }
 
-/// The manifest that a value gives.
+/// The manifest with its defaults that a value gives, or the first reason to refuse it.
 pub fn taken(
     alloc: Global,
     purpose: Purpose<'_>,
@@ -68,7 +68,7 @@ pub fn agree(alloc: Global, holds: bool, kind: Kind, object: &Object) -> Result<
     }))
 }
 
-/// Whether a manifest changes a template under the name that it keeps.
+/// Nothing where a manifest changes no template under a kept name, and else that it does.
 pub fn changed_well(old: &Object, manifest: &Manifest) -> Result<(), Stop>
     ensures { Comes result (spec.changed_well (change_fault old.now manifest.now)) }
 {

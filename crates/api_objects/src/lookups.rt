@@ -22,6 +22,7 @@ pub fn standing<'a>(
     ensures value { option_copied result ≡ spec.standing store.now.entries kind space.now name.now }
     ensures stands { ForSome (option_copied result) (StandsAs kind space.now name.now) }
 {
+    // Its contract tells that the entries are stamped, by which what stands is of the key that it is found by.
     let _version = store.version();
     find_standing(store, kind, space, name)
 }

@@ -1,30 +1,16 @@
 //! The object that a manifest asks for.
 ghost use Rattle.std.specs.Prelude.{◌≡◌, IfOk};
 ghost use Rattle.std.specs.Option.{option_copied};
-ghost use Rattle.resource_types.specs.Objects.{no_status, status_of};
+ghost use Rattle.resource_types.specs.Objects.{status_of};
 ghost use Rattle.resource_types.specs.Lookups.{key_of};
 ghost use Rattle.api_objects.specs.Objects as spec;
 
-use json_tree::{Copied, Seq, Text};
+use json_tree::{Copied, Text};
 use resource_types::{
     Body, Key, Kind, Manifest, ManifestSpec, Meta, Name, Object, ObjectStatus, Owner,
 };
 use std::alloc::{AllocError, Global};
 use version_store::item::Stamp;
-
-/// The status of an object that no controller has looked at.
-fn no_status(alloc: Global) -> Result<ObjectStatus, AllocError>
-    ensures { IfOk result (λ s. s ≡ no_status) }
-{
-    Ok(ObjectStatus {
-        observed: 0,
-        created: Text::new(alloc, "")?,
-        ready: Text::new(alloc, "")?,
-        url: Text::new(alloc, "")?,
-        traffic: Seq::new(alloc),
-        conditions: Seq::new(alloc),
-    })
-}
 
 fn status_of(alloc: Global, object: &Object) -> Result<ObjectStatus, AllocError>
     ensures { IfOk result (λ s. s ≡ status_of object.now.body) }
@@ -34,7 +20,7 @@ fn status_of(alloc: Global, object: &Object) -> Result<ObjectStatus, AllocError>
         Body::Configuration { status, .. } => status.copy(alloc),
         Body::Revision { status, .. } => status.copy(alloc),
         Body::Route { status, .. } => status.copy(alloc),
-        _ => no_status(alloc),
+        _ => ObjectStatus::empty(alloc),
     }
 }
 
@@ -43,7 +29,7 @@ fn status_over(alloc: Global, old: Option<&Object>) -> Result<ObjectStatus, Allo
 {
     match old {
         Some(object) => status_of(alloc, object),
-        None => no_status(alloc),
+        None => ObjectStatus::empty(alloc),
     }
 }
 

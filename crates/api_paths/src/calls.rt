@@ -2,8 +2,8 @@
 use http_session::Allow;
 use resource_types::{ClientKind, Kind};
 
-/// A call of the API, by what its method and its target say. `space` is a namespace, a label of at most 63 bytes, and
-/// `name` is one segment of the path that isn't empty.
+/// A call of the API, by what its method and its target say. `space` is a namespace, a label of at most 63 bytes, `name` is
+/// one segment of the path that isn't empty, and `after` is the version behind which changes are told, 0 where none is given.
 #[derive(Clone, Copy, Debug, PartialEq, Eq)]
 pub enum Call<'a> {
     /// To list the objects of a kind in a namespace. For Tables `space` is empty, and all namespaces are meant.

@@ -106,45 +106,29 @@ fn has_no_slash(bytes: &[u8]) -> bool
 fn kind_of(plural: &str) -> Option<Kind>
     ensures { result ≡ paths.beside plural.now paths.plurals }
 {
-    if plural == "services" {
-        return Some(Kind::Service);
+    match plural {
+        "services" => Some(Kind::Service),
+        "configurations" => Some(Kind::Configuration),
+        "revisions" => Some(Kind::Revision),
+        "routes" => Some(Kind::Route),
+        _ => None,
     }
-    if plural == "configurations" {
-        return Some(Kind::Configuration);
-    }
-    if plural == "revisions" {
-        return Some(Kind::Revision);
-    }
-    if plural == "routes" {
-        return Some(Kind::Route);
-    }
-    None
 }
 
 /// What a path of the control plane names.
 fn control_path(path: &str) -> Option<Resource<'static>>
     ensures { option_map resource_seen result ≡ paths.beside path.now paths.control_paths }
 {
-    if path == "/control/reports" {
-        return Some(Resource::Reports);
-    }
-    if path == "/control/clock" {
-        return Some(Resource::Clock);
-    }
-    if path == "/control/steps" {
-        return Some(Resource::Steps);
-    }
-    if path == "/control/settle" {
-        return Some(Resource::Settling);
-    }
-    if path == "/control/tables" {
-        return Some(Resource::Collection {
+    match path {
+        "/control/reports" => Some(Resource::Reports),
+        "/control/clock" => Some(Resource::Clock),
+        "/control/steps" => Some(Resource::Steps),
+        "/control/settle" => Some(Resource::Settling),
+        "/control/tables" => Some(Resource::Collection {
             kind: Kind::Table,
             space: "",
-        });
+        }),
+        "/control/summary" => Some(Resource::Overview),
+        _ => None,
     }
-    if path == "/control/summary" {
-        return Some(Resource::Overview);
-    }
-    None
 }

@@ -73,7 +73,7 @@ fn message_of(alloc: Global, cause: Option<&Condition>) -> Result<Text, AllocErr
 
 /// The condition `Ready`, with the truth of [`fold_truth`]. Its reason and message are those of the first part with
 /// that truth where it isn't True, and empty where it is. It isn't of severity `Info`, and its time is 0 until
-/// [`crate::settle_times`] gives it one.
+/// [`crate::settle_times`] gives it one. All the parts count, so a caller leaves `HasBeenReady` out.
 pub fn fold(alloc: Global, parts: &Seq<Condition>) -> Result<Condition, AllocError>
     ensures { IfOk result (λ ready. ready ≡ fold_of parts.now) }
 {

@@ -3,7 +3,8 @@ use Rattle.std.specs.Prelude.{◌≡◌}
 use Rattle.http_session.specs.Session.{SessionState}
 use Rattle.api_server.specs.Ask.{State}
 use Rattle.manifest_check.specs.declared.command.CheckEnd.{CheckEnd}
-use Rattle.manifest_check.specs.Checks.{Ends, Leaves, IsComplete}
+use Rattle.serve_io.specs.Gate.{Ends}
+use Rattle.manifest_check.specs.Checks.{Leaves, IsComplete}
 use Rattle.control_cli.specs.declared.status.Status.{Status}
 use Rattle.control_cli.specs.Ends.{status_of_check}
 

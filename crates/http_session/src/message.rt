@@ -15,6 +15,7 @@ pub struct Request {
 /// A request of a stream.
 #[derive(Debug, Drop)]
 pub struct Asked {
+    /// The request.
     pub request: Request,
     /// Whether it asks that the connection closes: by HTTP/1.0, or by `close` in a `Connection` field.
     pub closes: bool,
@@ -25,10 +26,15 @@ pub struct Asked {
 pub enum Allow {
     /// There is no such field.
     None,
+    /// `GET`.
     Get,
+    /// `GET` and `POST`.
     GetPost,
+    /// `GET` and `DELETE`.
     GetDelete,
+    /// `GET`, `PUT`, `PATCH` and `DELETE`.
     GetPutPatchDelete,
+    /// `POST`.
     Post,
 }
 

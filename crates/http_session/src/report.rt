@@ -3,7 +3,9 @@
 /// Whether a session asks the clock for the moment of each request.
 #[derive(Clone, Copy, Debug, PartialEq, Eq)]
 pub enum ClockMode {
+    /// Each request has the clock's next moment.
     Ask,
+    /// The clock is left alone, and a request has no moment.
     Leave,
 }
 
@@ -12,7 +14,7 @@ pub enum ClockMode {
 pub enum HeadFault {
     /// The bytes are no request head of HTTP/1.0 or HTTP/1.1.
     Malformed,
-    /// It doesn't end within 8,192 bytes, or has more than 64 fields.
+    /// It doesn't end within 8,192 bytes, or has more lines than its first, 64 fields and the empty one.
     HeadTooLarge,
     /// There are several fields `Content-Length`, or its value isn't one or more decimal digits.
     BadLength,
@@ -25,7 +27,7 @@ pub enum HeadFault {
 /// How a session ended.
 #[derive(Clone, Copy, Debug, PartialEq, Eq)]
 pub enum SessionEnd {
-    /// The source ended behind a whole request, empty lines aside.
+    /// The source ended behind a whole request or before any, empty lines aside.
     Clean,
     /// A request asked for close, and was answered.
     Closed,
@@ -46,6 +48,7 @@ pub enum SessionEnd {
 /// What a session says of itself.
 #[derive(Clone, Copy, Debug, PartialEq, Eq)]
 pub struct SessionReport {
+    /// How it ended.
     pub end: SessionEnd,
     /// How many requests have a reply that was written whole.
     pub answered: u64,

@@ -14,7 +14,7 @@ use std::alloc::{AllocError, Global};
 /// How a stream of requests ends.
 #[derive(Clone, Copy, Debug, PartialEq, Eq)]
 pub enum StreamEnd {
-    /// Behind a whole request, empty lines aside.
+    /// Behind a whole request or before any, empty lines aside.
     Clean,
     /// With a request that asks for close; what is left isn't looked at.
     Closed,
@@ -27,7 +27,9 @@ pub enum StreamEnd {
 /// The requests of some bytes, in order, and how they end.
 #[derive(Debug, Drop)]
 pub struct Stream {
+    /// The requests that are whole.
     pub requests: Seq<Asked>,
+    /// What stands behind them.
     pub end: StreamEnd,
 }
 

@@ -52,7 +52,7 @@ before_middle : (a : List ℕ) (es : List (List ℕ × Json)) (e : List ℕ × J
 before_middle a [] e more h = grind arith
 before_middle a (x ∷ es) e more h = before_middle a es e more (grind arith)
 
-less_of : (o : Ordering) → is_lt o ≡ true → o ≡ Less
+pub less_of : (o : Ordering) → is_lt o ≡ true → o ≡ Less
 less_of Less h = refl
 less_of Equal h = cc
 less_of Greater h = cc

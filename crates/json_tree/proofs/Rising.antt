@@ -6,11 +6,7 @@ use Rattle.std.proofs.lemmas.Slice.Eq.{bytes_eq-Decides}
 use Rattle.std.specs.Cmp.Lexicographic.{slice_cmp}
 use Rattle.std.specs.Ordering.{is_lt, is_eq, match_ordering, ordering_reverse}
 use Rattle.json_tree.specs.Tree.{put_entry, names_rise, is_before_all, is_after_all, names_of}
-
-less_of : (o : Ordering) → is_lt o ≡ true → o ≡ Less
-less_of Less h = refl
-less_of Equal h = cc
-less_of Greater h = cc
+use Rattle.json_tree.proofs.Facts.{less_of}
 
 before_all_trans : (k a : List ℕ) (ns : List (List ℕ)) → slice_cmp nat_cmp k a ≡ Less → is_before_all a ns ≡ true → is_before_all k ns ≡ true
 before_all_trans k a [] p h = refl
@@ -69,6 +65,23 @@ module _ {A : Type 0} where
   rises-push k v (e ∷ es) h a =
       let first : is_before_all e.0 (names_of (es ++ (k, v) ∷ [])) ≡ true = before_push e.0 k v es (grind arith) (grind arith) in
       let rest : names_rise (names_of (es ++ (k, v) ∷ [])) ≡ true = rises-push k v es (grind arith) (grind arith) in
+      grind arith
+
+  -- a name that comes after all others is put behind them
+  pub put-behind : (k : List ℕ) (v : A) (es : List (List ℕ × A)) → is_after_all k (names_of es) ≡ true → put_entry k v es ≡ es ++ (k, v) ∷ []
+  put-behind k v [] h = refl
+  put-behind k v (e ∷ es) h =
+      let below : slice_cmp nat_cmp e.0 k ≡ Less = less_of _ (grind arith) in
+      let above : slice_cmp nat_cmp k e.0 ≡ Greater = nat_list_cmp_total.antisymm k e.0 ∙ ap ordering_reverse below in
+      let rest : put_entry k v es ≡ es ++ (k, v) ∷ [] = put-behind k v es (grind arith) in
+      rw above (ap (λ (xs : List (List ℕ × A)). e ∷ xs) rest)
+
+  -- a name that comes after all others, and after the new one, comes after all of them
+  pub after-push : (k a : List ℕ) (v : A) (es : List (List ℕ × A)) → is_after_all k (names_of es) ≡ true → is_lt (slice_cmp nat_cmp a k) ≡ true
+      → is_after_all k (names_of (es ++ (a, v) ∷ [])) ≡ true
+  after-push k a v [] h b = grind arith
+  after-push k a v (e ∷ es) h b =
+      let rest : is_after_all k (names_of (es ++ (a, v) ∷ [])) ≡ true = after-push k a v es (grind arith) b in
       grind arith
 
   -- where a change that can be refused keeps the names rising, they rise after it either way

@@ -14,7 +14,8 @@ use Rattle.manifest_intake.proofs.Bodies.{one_body}
 use Rattle.manifest_check.specs.declared.command.CheckEnd.{CheckEnd}
 use Rattle.manifest_check.specs.declared.command.CheckEnd.TheVariants.{Done, Refused, ReadFault, WriteFault, Memory}
 use Rattle.manifest_check.specs.Lines.{refusal_line, long_line}
-use Rattle.manifest_check.specs.Checks.{Ends, Gives, IsLong, Leaves, IsDue, IsComplete}
+use Rattle.serve_io.specs.Gate.{Ends}
+use Rattle.manifest_check.specs.Checks.{Gives, IsLong, Leaves, IsDue, IsComplete}
 
 -- what was read to its end is all that there was
 whole_of : (left : Option (List ℕ)) (all bytes : List ℕ) → left ≡ Some all → IsAll left bytes → bytes ≡ all

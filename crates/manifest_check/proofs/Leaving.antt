@@ -10,7 +10,8 @@ use Rattle.manifest_intake.specs.Intake.{Checks}
 use Rattle.manifest_check.specs.declared.command.CheckEnd.{CheckEnd}
 use Rattle.manifest_check.specs.declared.command.CheckEnd.TheVariants.{Done, Refused}
 use Rattle.manifest_check.specs.Lines.{manifest_line, refusal_line, long_line}
-use Rattle.manifest_check.specs.Checks.{Ends, ends_of, IsTaken, IsRefused, Leaves, Sent, Answers}
+use Rattle.serve_io.specs.Gate.{Ends}
+use Rattle.manifest_check.specs.Checks.{ends_of, IsTaken, IsRefused, Leaves, Sent, Answers}
 
 -- a line that is due was sent
 sent_leaves : (old new : Ends) (line : List ℕ) (whole end : CheckEnd) → (Appends old.taken new.taken line → Leaves old new whole)

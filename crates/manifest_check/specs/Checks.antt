@@ -4,6 +4,7 @@ use Rattle.std.specs.Option.{IfSome}
 use Rattle.std.specs.Io.KnownBytes.{Consumes, Appends}
 use Rattle.json_tree.specs.declared.value.Json.{Json}
 use Rattle.serve_io.specs.Causes.{Rose}
+use Rattle.serve_io.specs.Gate.{Ends}
 use Rattle.http_session.specs.Session.{IsAll}
 use Rattle.resource_types.specs.declared.manifests.Manifest.{Manifest}
 use Rattle.manifest_intake.specs.declared.refusal.ManifestRefusal.{ManifestRefusal}
@@ -13,14 +14,7 @@ use Rattle.manifest_check.specs.Lines.{manifest_line, refusal_line, long_line}
 use Rattle.manifest_check.specs.declared.command.CheckEnd.{CheckEnd}
 use Rattle.manifest_check.specs.declared.command.CheckEnd.TheVariants.{Done, Refused, ReadFault, WriteFault, Memory}
 
--- what the source has left and what the sink took, where these are told, and the counts of faults of both
-pub record Ends : Type 0 where
-  pub left : Option (List ℕ)
-  pub reads_failed : ℕ
-  pub taken : Option (List ℕ)
-  pub writes_failed : ℕ
-
--- the same, by its parts
+-- what the source has left and what the sink took, where these are told, and the counts of faults of both, by these parts
 abbrev pub ends_of : Option (List ℕ) → ℕ → Option (List ℕ) → ℕ → Ends
 ends_of left reads_failed taken writes_failed = record { left = left; reads_failed = reads_failed; taken = taken; writes_failed = writes_failed }
 

@@ -16,14 +16,11 @@ use std::alloc::Global;
 fn kind_named(word: &Text) -> Option<ClientKind>
     ensures { result ≡ spec.kind_named word.now }
 {
-    if word.is("Service") {
-        Some(ClientKind::Service)
-    } else if word.is("Configuration") {
-        Some(ClientKind::Configuration)
-    } else if word.is("Route") {
-        Some(ClientKind::Route)
-    } else {
-        None
+    match word.as_str() {
+        "Service" => Some(ClientKind::Service),
+        "Configuration" => Some(ClientKind::Configuration),
+        "Route" => Some(ClientKind::Route),
+        _ => None,
     }
 }
 

@@ -1,10 +1,10 @@
 -- Fields whose names rise: to add each behind the others is to put each at its place.
-use Rattle.std.proofs.Common.{◌≡◌, ℕ, Bool, true, false, ◌&&◌, Option, Some, None, List, [], ◌∷◌, ◌++◌, nat_cmp, Ordering, Less, Equal, Greater, codes, refl, sym, ap, ◌∙◌, arith}
-use Rattle.std.proofs.lemmas.Cmp.{nat_list_cmp_total}
+use Rattle.std.proofs.Common.{◌≡◌, ℕ, Bool, true, false, ◌&&◌, Option, Some, None, List, [], ◌∷◌, nat_cmp, codes, refl, sym, ap, ◌∙◌, arith}
 use Rattle.std.specs.Cmp.Lexicographic.{slice_cmp}
-use Rattle.std.specs.Ordering.{is_lt, ordering_reverse}
-use Rattle.json_tree.specs.Tree.{put_entry, names_rise, is_before_all, is_after_all, names_of}
+use Rattle.std.specs.Ordering.{is_lt}
+use Rattle.json_tree.specs.Tree.{names_rise, is_before_all, is_after_all, names_of}
 use Rattle.json_tree.specs.declared.value.Json.{Json}
+use Rattle.json_tree.proofs.Rising.{put-behind, after-push}
 use Rattle.resource_types.specs.declared.specification.Target.{Target}
 use Rattle.resource_codec.specs.Reading.{Member}
 use Rattle.resource_codec.specs.Written.{Field, put_field, put_fields, add_field, text_field, truth_field, number_field, target_fields, target_members}
@@ -15,42 +15,21 @@ abbrev pub add_fields : List Field → List Member → List Member
 add_fields [] es = es
 add_fields (f ∷ fs) es = add_fields fs (add_field f.0 f.1 es)
 
-less_of : (o : Ordering) → is_lt o ≡ true → o ≡ Less
-less_of Less h = refl
-less_of Equal h = cc
-less_of Greater h = cc
-
--- a name is put behind all that come before it
-put_behind : (k : List ℕ) (v : Json) (es : List Member) → is_after_all k (names_of es) ≡ true → es ++ (k, v) ∷ [] ≡ put_entry k v es
-put_behind k v [] h = refl
-put_behind k v (e ∷ es) h =
-    let below : slice_cmp nat_cmp e.0 k ≡ Less = less_of _ (grind arith) in
-    let above : slice_cmp nat_cmp k e.0 ≡ Greater = nat_list_cmp_total.antisymm k e.0 ∙ ap ordering_reverse below in
-    let rest : es ++ (k, v) ∷ [] ≡ put_entry k v es = put_behind k v es (grind arith) in
-    rw above (ap (λ (xs : List Member). e ∷ xs) rest)
-
 field_behind : (k : List ℕ) (o : Option Json) (es : List Member) → is_after_all k (names_of es) ≡ true → add_field k o es ≡ put_field k o es
 unfolding add_field put_field
 field_behind k None es h = refl
-field_behind k (Some v) es h = put_behind k v es h
+field_behind k (Some v) es h = sym (put-behind k v es h)
 
 -- each of the names comes after all of the others
 abbrev are_after_all : List (List ℕ) → List (List ℕ) → Bool
 are_after_all [] ns = true
 are_after_all (k ∷ ks) ns = is_after_all k ns && are_after_all ks ns
 
-after_push : (k a : List ℕ) (v : Json) (es : List Member) → is_after_all k (names_of es) ≡ true → is_lt (slice_cmp nat_cmp a k) ≡ true
-    → is_after_all k (names_of (es ++ (a, v) ∷ [])) ≡ true
-after_push k a v [] h b = grind arith
-after_push k a v (e ∷ es) h b =
-    let rest : is_after_all k (names_of (es ++ (a, v) ∷ [])) ≡ true = after_push k a v es (grind arith) b in
-    grind arith
-
 after_field : (k a : List ℕ) (o : Option Json) (es : List Member) → is_after_all k (names_of es) ≡ true → is_lt (slice_cmp nat_cmp a k) ≡ true
     → is_after_all k (names_of (add_field a o es)) ≡ true
 unfolding add_field
 after_field k a None es h b = h
-after_field k a (Some v) es h b = after_push k a v es h b
+after_field k a (Some v) es h b = after-push k a v es h b
 
 still_after : (ks : List (List ℕ)) (a : List ℕ) (o : Option Json) (es : List Member) → are_after_all ks (names_of es) ≡ true → is_before_all a ks ≡ true
     → are_after_all ks (names_of (add_field a o es)) ≡ true

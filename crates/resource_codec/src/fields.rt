@@ -129,5 +129,5 @@ fn target_text(alloc: Global, place: u64, part: TargetField) -> Result<Text, All
     };
     let mut path = format!(in alloc; "spec.traffic[{place}")?;
     path.push_str(end)?;
-    Text::new(alloc, path.as_str())
+    Ok(Text::from_string(path))
 }

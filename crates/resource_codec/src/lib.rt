@@ -21,9 +21,7 @@ mod writing;
 
 pub use decoding::decode;
 pub use encoding::{encode_manifest, have_same_bytes};
-pub use events::{poll_form, put_event, removal_event};
 pub use fields::{DecodeError, Field, TargetField, path_text};
-pub use lists::list_json;
 pub use objects::encode;
 pub use polls::poll_json;
 pub use standing::list_of;

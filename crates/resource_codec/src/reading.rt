@@ -18,6 +18,7 @@ fn under<'a>(members: Option<&'a Members>, name: &str) -> Option<&'a Json>
     }
 }
 
+/// The members of a value, which must be an object.
 pub fn object(json: &Json, field: Field) -> Result<&Members, DecodeError>
     ensures { Gives (λ m. m.now.entries) result (object_at field (out-Json json.now)) }
 {
@@ -27,6 +28,7 @@ pub fn object(json: &Json, field: Field) -> Result<&Members, DecodeError>
     }
 }
 
+/// The members of the object under a name, which must be there.
 pub fn object_under<'a>(
     members: Option<&'a Members>,
     name: &str,
@@ -40,6 +42,7 @@ pub fn object_under<'a>(
     }
 }
 
+/// A copy of the text under a name, which must be there.
 pub fn text(
     alloc: Global,
     members: Option<&Members>,
@@ -54,6 +57,7 @@ pub fn text(
     }
 }
 
+/// A copy of the text under a name, empty where none is there.
 pub fn optional_text(
     alloc: Global,
     members: Option<&Members>,
@@ -69,6 +73,7 @@ pub fn optional_text(
     }
 }
 
+/// The members of the object under a name, if one is there. An empty text counts as absent here, and in all calls below.
 pub fn optional_object<'a>(
     members: Option<&'a Members>,
     name: &str,
@@ -79,17 +84,12 @@ pub fn optional_object<'a>(
     match under(members, name) {
         Some(Json::Obj(members)) => Ok(Some(members)),
         Some(Json::Null) | None => Ok(None),
-        Some(Json::Str(text)) => {
-            if text.is("") {
-                Ok(None)
-            } else {
-                Err(DecodeError::Shape(field))
-            }
-        }
+        Some(Json::Str(text)) if text.is_empty() => Ok(None),
         _ => Err(DecodeError::Shape(field)),
     }
 }
 
+/// The number under a name, if one is there.
 pub fn optional_number(
     members: Option<&Members>,
     name: &str,
@@ -100,17 +100,12 @@ pub fn optional_number(
     match under(members, name) {
         Some(Json::Nat(number)) => Ok(Some(*number)),
         Some(Json::Null) | None => Ok(None),
-        Some(Json::Str(text)) => {
-            if text.is("") {
-                Ok(None)
-            } else {
-                Err(DecodeError::Shape(field))
-            }
-        }
+        Some(Json::Str(text)) if text.is_empty() => Ok(None),
         _ => Err(DecodeError::Shape(field)),
     }
 }
 
+/// What is true or false under a name, if it is there.
 pub fn optional_truth(
     members: Option<&Members>,
     name: &str,
@@ -121,17 +116,12 @@ pub fn optional_truth(
     match under(members, name) {
         Some(Json::Bool(truth)) => Ok(Some(*truth)),
         Some(Json::Null) | None => Ok(None),
-        Some(Json::Str(text)) => {
-            if text.is("") {
-                Ok(None)
-            } else {
-                Err(DecodeError::Shape(field))
-            }
-        }
+        Some(Json::Str(text)) if text.is_empty() => Ok(None),
         _ => Err(DecodeError::Shape(field)),
     }
 }
 
+/// The items of the array under a name, if one is there.
 pub fn optional_array<'a>(
     members: Option<&'a Members>,
     name: &str,
@@ -142,17 +132,12 @@ pub fn optional_array<'a>(
     match under(members, name) {
         Some(Json::Arr(items)) => Ok(Some(items)),
         Some(Json::Null) | None => Ok(None),
-        Some(Json::Str(text)) => {
-            if text.is("") {
-                Ok(None)
-            } else {
-                Err(DecodeError::Shape(field))
-            }
-        }
+        Some(Json::Str(text)) if text.is_empty() => Ok(None),
         _ => Err(DecodeError::Shape(field)),
     }
 }
 
+/// Copies of the texts in the object under a name, none where none is there. Its nulls are left out, and its empty texts stay.
 pub fn optional_texts(
     alloc: Global,
     members: Option<&Members>,
@@ -194,6 +179,7 @@ fn is_rest(name: &Text, value: &Json) -> bool
     name.as_str() != "containerConcurrency" && name.as_str() != "timeoutSeconds"
 }
 
+/// Copies of the members of a pod spec but its two numbers and its nulls.
 pub fn rest_of(alloc: Global, members: &Members) -> Result<Members, AllocError>
     ensures { IfOk result (λ rest. rest ≡ rest_of members.now.entries) }
 {

@@ -35,7 +35,7 @@ fn joined(alloc: Global, names: &[Text]) -> Result<Text, AllocError>
     }
     let mut text = String::from_str(alloc, names[0].as_str())?;
     push_names(&mut text, &names[1..])?;
-    Text::new(alloc, text.as_str())
+    Ok(Text::from_string(text))
 }
 
 fn routing_state(pins: &Seq<Text>) -> &'static str

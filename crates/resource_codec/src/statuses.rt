@@ -6,11 +6,8 @@ use crate::adding::{add_array, add_made, add_number, add_text, add_word};
 use crate::writing::target_members;
 use json_tree::{Json, Members, Seq, Text};
 use resource_types::{CondName, Condition, ObjectStatus, Target, Truth};
-use serve_names::moment_text;
+use serve_names::{LAST_MOMENT, moment_text};
 use std::alloc::{AllocError, Global};
-
-// 9999-12-31T23:59:59Z, in whole seconds since 1970.
-const LAST_MOMENT: u64 = 253_402_300_799;
 
 // The most fields of a condition.
 const CONDITION_FIELDS: usize = 6;

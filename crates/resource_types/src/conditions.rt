@@ -16,7 +16,8 @@ pub enum Truth {
 /// The types of conditions, in order of their words, which is the order in a status.
 #[derive(Clone, Copy, Debug, PartialEq, Eq, PartialOrd, Ord)]
 pub enum CondName {
-    /// Of a Route: each of its targets is a Revision that is ready.
+    /// Of a Route: each Revision that a target names is ready, and each one that a target on a Configuration comes to has
+    /// been ready.
     AllTrafficAssigned,
     /// Of a Service: its Configuration is ready.
     ConfigurationsReady,
@@ -47,7 +48,7 @@ pub struct Condition {
     pub message: Text,
     /// Whether its severity is `Info`.
     pub info: bool,
-    /// The moment from which on the truth is as it is.
+    /// The moment from which on the truth is as it is, in whole seconds since 1970.
     pub since: u64,
 }
 

@@ -1,5 +1,5 @@
-//! The objects of the control plane: their names, their parts and the six kinds, in the order of fields that their
-//! JSON form and their reader expect; and the look-ups that every controller asks of the objects that stand.
+//! The objects of the control plane: their names, their parts and the six kinds; and the look-ups that every controller
+//! asks of the objects that stand.
 //!
 //! Every type can be copied exactly ([`json_tree::Copied`]) and told apart exactly ([`json_tree::Alike`]). An empty
 //! text stands for an absent one. Names of owners, targets, pins, rows and statuses are simple names: they mean objects

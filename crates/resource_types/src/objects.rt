@@ -37,7 +37,7 @@ pub enum Body {
         generation: u64,
         /// The simple names of the Routes that hold the Revision, in order of bytes.
         pins: Seq<Text>,
-        /// The moment at which the pins last became empty or stopped being empty.
+        /// The moment at which the pins last became empty or stopped being empty, in whole seconds since 1970; none before.
         active: Option<u64>,
         /// What was found.
         status: ObjectStatus,

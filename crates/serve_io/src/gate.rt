@@ -19,7 +19,7 @@ pub enum Listened {
 /// What came next at a gate.
 #[derive(Debug, Drop)]
 pub enum Next<I, O> {
-    /// A connection, with its two ends.
+    /// A connection, with its two ends: what comes from the other side, and what goes to it.
     Connection { input: I, output: O },
     /// No connection is to come.
     Closed,
@@ -31,8 +31,10 @@ pub enum Next<I, O> {
 /// it tells them (an address that is empty while it doesn't listen). Every gate tells whether it listens, how many connections
 /// are out, and a count of faults that never falls.
 pub trait Gate {
+    /// The end of a connection that is read from.
     type In: Source;
 
+    /// The end of a connection that is written to.
     type Out: Sink;
 
     ghost coming: { Self → Option (List Ends) };

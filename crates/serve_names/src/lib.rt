@@ -22,7 +22,7 @@ pub use durations::read_duration;
 pub use fields::read_moment;
 pub use generated::generated_name;
 pub use labels::is_label;
-pub use moments::moment_text;
+pub use moments::{LAST_MOMENT, moment_text};
 pub use uids::{read_uid, uid_text};
 
 #[cfg(test)]

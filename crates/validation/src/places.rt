@@ -128,7 +128,7 @@ fn image_text(alloc: Global, index: u64) -> Result<Text, AllocError>
     ensures { IfOk result (λ text. text ≡ text_of_place (Place.Image index)) }
 {
     let path = format!(in alloc; "spec.template.spec.containers[{index}].image")?;
-    Text::new(alloc, path.as_str())
+    Ok(Text::from_string(path))
 }
 
 fn target_text(alloc: Global, index: u64, end: &str) -> Result<Text, AllocError>
@@ -136,5 +136,5 @@ fn target_text(alloc: Global, index: u64, end: &str) -> Result<Text, AllocError>
 {
     let mut path = format!(in alloc; "spec.traffic[{index}")?;
     path.push_str(end)?;
-    Text::new(alloc, path.as_str())
+    Ok(Text::from_string(path))
 }

@@ -1,8 +1,8 @@
 //! The versioned store: optimistic, generic in its items, and seen as its journal.
 //!
 //! Every answer of a [`store::Store`] is a function of the journal that it keeps: the list of all that was written.
-//! Beside the journal it keeps an index, which no contract mentions, so that no call scans. The module
-//! [`plain`] has the same answers as scans of the journal. The trait [`reconciler::Reconciler`] is the law of a
+//! Beside the journal it keeps an index, which no contract mentions, so that a look-up of what stands doesn't scan it. The
+//! module [`plain`] has answers of a store as scans of the journal. The trait [`reconciler::Reconciler`] is the law of a
 //! controller that looks at a store and plans one write.
 #![tactic(auto)]
 

@@ -1,4 +1,4 @@
-//! The plain program: each answer of a store by a scan of its journal.
+//! The plain program: answers of a store, each by a scan of its journal.
 ghost use Rattle.std.specs.Prelude.{◌≡◌, ◌<◌, ◌-◌, ◌^◌, length, IfOk};
 ghost use Rattle.std.specs.Option.{option_copied};
 ghost use Rattle.version_store.specs.State.{state, find};

@@ -22,23 +22,28 @@ pub enum Change<O> {
 /// A change to one key, and the condition on which it is made.
 #[derive(Drop)]
 pub struct Plan<O: Item> {
+    /// The key that is changed.
     pub key: O::Key,
+    /// What must stand under the key.
     pub expect: Expect,
     /// Whether the plan is stale once a guarding object was made, or its spec changed, since it was seen.
     pub guarded: bool,
+    /// What is done to the key.
     pub change: Change<O>,
 }
 
 /// A plan, by whom it is applied, and what was known when it was made.
 #[derive(Drop)]
 pub struct Write<O: Item> {
+    /// The plan.
     pub plan: Plan<O>,
+    /// Who applies it.
     pub actor: O::Actor,
     /// The version of the store that the plan was made for.
     pub seen: u64,
     /// The moment that the plan was made for.
     pub read_at: u64,
-    /// The moment of the write.
+    /// The moment of the write. Moments are whole seconds.
     pub moment: u64,
 }
 
@@ -60,11 +65,16 @@ pub enum Applied {
 /// What was written at one version.
 #[derive(Drop)]
 pub struct Entry<O: Item> {
+    /// The key that was changed.
     pub key: O::Key,
     /// The object that was put, with its stamp, or nothing where the key's object was removed.
     pub object: Option<O>,
+    /// Who wrote.
     pub actor: O::Actor,
+    /// The version of the store that the plan was made for.
     pub seen: u64,
+    /// The moment that the plan was made for.
     pub read_at: u64,
+    /// The moment of the write.
     pub moment: u64,
 }
