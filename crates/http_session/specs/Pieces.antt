@@ -1,5 +1,5 @@
--- How a session hands its replies to the sink: each in one piece where it is short, else as its head and after that its body.
-use Rattle.std.specs.Prelude.{◌≡◌, ℕ, ◌+◌, ◌<◌, ◌≤◌, ◌⊎◌, Bool, true, false, List, [], ◌∷◌, ◌++◌, length, take, Option}
+-- How a session hands its replies to the sink: each as its head, and after that its body.
+use Rattle.std.specs.Prelude.{◌≡◌, ℕ, ◌<◌, ◌⊎◌, Bool, true, false, List, [], ◌∷◌, length, take, Option}
 use Rattle.serve_io.specs.declared.sink.WriteAnswer.{WriteAnswer}
 use Rattle.serve_io.specs.Causes.{Rose}
 use Rattle.serve_io.specs.Whole.{WritesRest}
@@ -29,25 +29,11 @@ reply_pieces closes method reply = record { head = reply_head closes reply; body
 abbrev pub fault_pieces : HeadFault → Pieces
 fault_pieces fault = record { head = head_bytes true (fault_code fault) allow.None (length (fault_body fault)); body = fault_body fault }
 
--- the most bytes of a head and a body that are written in one piece
-abbrev pub most_together : ℕ
-most_together = 8192
-
--- head and body were written as one piece, whole or cut
-abbrev pub WritesTogether : {K : Type 0} → (K → List ℕ → WriteAnswer → K → Type 0) → K → Pieces → Bool → K → Type 0
-WritesTogether writes old pieces sent new = WritesRest writes old (pieces.head ++ pieces.body) sent new
-
 -- the whole head was written, and then the body, whole or cut; or the head was cut, and nothing was written behind it
-abbrev pub WritesApart : {K : Type 0} → (K → List ℕ → WriteAnswer → K → Type 0) → K → Pieces → Bool → K → Type 0
-WritesApart {K} writes old pieces sent new =
+abbrev pub WritesPieces : {K : Type 0} → (K → List ℕ → WriteAnswer → K → Type 0) → K → Pieces → Bool → K → Type 0
+WritesPieces {K} writes old pieces sent new =
     ((middle : K) × WritesRest writes old pieces.head true middle × WritesRest writes middle pieces.body sent new)
     ⊎ (WritesRest writes old pieces.head false new × (sent ≡ false))
-
--- what is short enough was written in one piece, and what is longer in two
-abbrev pub WritesPieces : {K : Type 0} → (K → List ℕ → WriteAnswer → K → Type 0) → K → Pieces → Bool → K → Type 0
-WritesPieces writes old pieces sent new =
-    (length pieces.head + length pieces.body ≤ most_together → WritesTogether writes old pieces sent new)
-    × (most_together < length pieces.head + length pieces.body → WritesApart writes old pieces sent new)
 
 -- a handler beside the sink that its replies go to, and whether the last of them was written whole
 pub record Writer (H K : Type 0) : Type 0 where

@@ -8,10 +8,10 @@ use itoa::Buffer;
 use std::alloc::{AllocError, Global};
 use std::marker::Model;
 
-/// The least room, in bytes.
-pub(crate) const ROOM: usize = 8192;
+/// The least room, in bytes: no head of a reply is longer.
+const ROOM: usize = 512;
 
-/// Room of 8,192 bytes, which the head of each reply fits, and behind it the body of most.
+/// Room that the head of each reply fits.
 #[derive(Drop)]
 pub(crate) struct Room {
     bytes: Vec<u8>,
@@ -25,7 +25,7 @@ impl Model for Room {
 
     ghost view = { λ r. r.bytes.items };
 
-    ghost invariant = { λ r. 8192 ≤ vec_capacity r.bytes };
+    ghost invariant = { λ r. ROOM ≤ vec_capacity r.bytes };
 }
 
 impl Room {

@@ -1,34 +1,19 @@
-//! Writing replies. The head is built in room that is there already, and a short body behind it, so that this takes no memory
-//! and most replies one write.
-ghost use Rattle.std.specs.Prelude.{◌≡◌, ◌≤◌, ◌++◌, length};
+//! Writing replies. The head is built in room that is there already, so that this takes no memory.
+ghost use Rattle.std.specs.Prelude.{◌≡◌, ◌++◌, length};
 ghost use Rattle.serve_io.specs.Whole.{Sends};
 ghost use Rattle.http_session.specs.Reply.{head_bytes, fault_bytes, reply_body, IsReplyCode};
-ghost use Rattle.http_session.specs.Pieces.{WritesApart, WritesPieces, reply_pieces, fault_pieces};
+ghost use Rattle.http_session.specs.Pieces.{WritesPieces, reply_pieces, fault_pieces};
 
 use crate::fault::{body_of, code_of};
 use crate::message::{Allow, Reply};
 use crate::report::HeadFault;
-use crate::room::{ROOM, Room};
+use crate::room::Room;
 use serve_io::{Sink, write_whole};
 
-/// Writes the head that is in the room, and a body: as one piece where both fit there, else one after the other. False where a
-/// write failed.
-fn send_both<K: Sink>(room: &mut Room, sink: &mut K, body: &[u8]) -> bool
-    ensures sends { Sends (K.taken sink.old) (K.taken sink.new) (K.faults sink.old) (K.faults sink.new) (room.old ++ body.now) result }
-    ensures pieces { WritesPieces K.writes sink.old (record { head = room.old; body = body.now }) result sink.new }
-{
-    if room.bytes().len() + body.len() <= ROOM {
-        room.push(body);
-        write_whole(sink, room.bytes())
-    } else {
-        write_both(sink, room.bytes(), body)
-    }
-}
-
 /// Writes a head, and then a body. False where a write failed.
-fn write_both<K: Sink>(sink: &mut K, head: &[u8], body: &[u8]) -> bool
+fn send_both<K: Sink>(sink: &mut K, head: &[u8], body: &[u8]) -> bool
     ensures sends { Sends (K.taken sink.old) (K.taken sink.new) (K.faults sink.old) (K.faults sink.new) (head.now ++ body.now) result }
-    ensures apart { WritesApart K.writes sink.old (record { head = head.now; body = body.now }) result sink.new }
+    ensures pieces { WritesPieces K.writes sink.old (record { head = head.now; body = body.now }) result sink.new }
 {
     write_whole(sink, head) && write_whole(sink, body)
 }
@@ -41,7 +26,7 @@ pub(crate) fn send_fault<K: Sink>(room: &mut Room, sink: &mut K, fault: HeadFaul
 {
     let body = body_of(fault);
     room.put_head(true, code_of(fault), Allow::None, body.len());
-    send_both(room, sink, body)
+    send_both(sink, room.bytes(), body)
 }
 
 /// Writes the reply to a request. False where a write failed.
@@ -59,10 +44,9 @@ pub(crate) fn send_reply<K: Sink>(
 {
     let body = reply.body.as_slice();
     room.put_head(closes, reply.code, reply.allow, body.len());
-    let shown = if method == b"HEAD".as_slice() {
-        b"".as_slice()
+    if method == b"HEAD".as_slice() {
+        write_whole(sink, room.bytes())
     } else {
-        body
-    };
-    send_both(room, sink, shown)
+        send_both(sink, room.bytes(), body)
+    }
 }

@@ -12,9 +12,8 @@ use std::alloc::Global;
 /// Serves the requests of a source until its end, a fault, a bad head or a request that asks for close.
 ///
 /// The handler gets the requests of the stream in order and no others, however the reads cut it, in mode `Ask` each with the
-/// clock's next moment. What it answers is written to the sink, in one piece where it has at most 8,192 bytes and else its head and
-/// after that its body, each call of `write` being given the whole rest, and then it does its own work. At most 73,728 bytes of
-/// input are held.
+/// clock's next moment. What it answers is written to the sink, its head and after that its body, each call of `write` being
+/// given the whole rest, and then it does its own work. At most 73,728 bytes of input are held.
 pub fn session<H: Handler, S: Source, K: Sink, C: Clock>(
     alloc: Global,
     handler: &mut H,

@@ -174,26 +174,27 @@ fn table(alloc: Global) -> Result<Object, AllocError> {
     object(alloc, Kind::Table, "hello", body)
 }
 
+// Fails unless the object has an equal copy, which isn't that other one.
+fn copies(alloc: Global, object: &Object, other: &Object) -> Result<(), Fail> {
+    let copy = object.copy(alloc)?;
+    if copy == *object && copy.equals(object) && !copy.equals(other) {
+        Ok(())
+    } else {
+        Err(Fail::from("a copy is equal, and no other object is"))
+    }
+}
+
 #[test]
 fn copies_objects(rt: HostRuntime) -> Result<(), Fail> {
     let alloc = rt.alloc();
+    let other = revision(alloc, "hello-00001", 1, 1, Truth::False)?;
+    copies(alloc, &service(alloc)?, &other)?;
+    copies(alloc, &configuration(alloc)?, &other)?;
     let ready = revision(alloc, "hello-00001", 1, 1, Truth::True)?;
-    let unready = revision(alloc, "hello-00001", 1, 1, Truth::False)?;
-    assert!(rt; !ready.equals(&unready));
-    for object in [
-        service(alloc)?,
-        configuration(alloc)?,
-        ready,
-        route(alloc, "hello-00001")?,
-        health(alloc)?,
-        table(alloc)?,
-    ] {
-        let copy = object.copy(alloc)?;
-        assert_eq!(rt; copy, object);
-        assert!(rt; copy.equals(&object));
-        assert!(rt; !copy.equals(&unready));
-    }
-    Ok(())
+    copies(alloc, &ready, &other)?;
+    copies(alloc, &route(alloc, "hello-00001")?, &other)?;
+    copies(alloc, &health(alloc)?, &other)?;
+    copies(alloc, &table(alloc)?, &other)
 }
 
 #[test]
@@ -250,31 +251,19 @@ fn put(alloc: Global, store: &mut Store<Object>, object: Object) -> Result<Appli
 fn filled(alloc: Global) -> Result<Store<Object>, AllocError> {
     let mut store = Store::new(alloc);
     put(alloc, &mut store, configuration(alloc)?)?;
-    put(
-        alloc,
-        &mut store,
-        revision(alloc, "hello-b", 1, 1, Truth::True)?,
-    )?;
-    put(
-        alloc,
-        &mut store,
-        revision(alloc, "hello-a", 1, 1, Truth::True)?,
-    )?;
-    put(
-        alloc,
-        &mut store,
-        revision(alloc, "hello-c", 1, 2, Truth::False)?,
-    )?;
-    put(
-        alloc,
-        &mut store,
-        revision(alloc, "hello-d", 9, 7, Truth::True)?,
-    )?;
-    put(
-        alloc,
-        &mut store,
-        revision(alloc, "hello-e", 1, 0, Truth::True)?,
-    )?;
+    for (simple, uid, generation, truth) in [
+        ("hello-b", 1, 1, Truth::True),
+        ("hello-a", 1, 1, Truth::True),
+        ("hello-c", 1, 2, Truth::False),
+        ("hello-d", 9, 7, Truth::True),
+        ("hello-e", 1, 0, Truth::True),
+    ] {
+        put(
+            alloc,
+            &mut store,
+            revision(alloc, simple, uid, generation, truth)?,
+        )?;
+    }
     put(alloc, &mut store, route(alloc, "hello-b")?)?;
     Ok(store)
 }
