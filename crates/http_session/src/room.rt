@@ -20,6 +20,7 @@ pub(crate) struct Room {
 impl Model for Room {
     ghost use Rattle.std.specs.Prelude.{◌≤◌, List, ℕ};
     ghost use Rattle.std.specs.Vec.{vec_capacity};
+    ghost use Rattle.http_session.specs.declared.room.TheConstants.{ROOM};
 
     ghost Value = { List ℕ };
 

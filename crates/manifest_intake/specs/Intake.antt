@@ -49,8 +49,9 @@ fits_version other given = is_empty given
 abbrev pub keeps : Bool → ManifestRefusal → Result (Unit {0}) ManifestRefusal
 keeps holds refusal = if holds then Ok tt else Err refusal
 
-abbrev pub shaped : Result Manifest Field → Result Manifest ManifestRefusal
-shaped (Ok manifest) = Ok manifest
+-- what is of its shape, or that it isn't
+abbrev pub shaped : {A : Type 0} → Result A Field → Result A ManifestRefusal
+shaped (Ok x) = Ok x
 shaped (Err field) = Err (WrongShape field)
 
 abbrev pub ruled : Verdict → Result (Unit {0}) ManifestRefusal
@@ -84,25 +85,25 @@ kind_named word =
     else if bytes_eq word (codes "Route") then Some kind.Route
     else None
 
--- the word of the kind, in an object that says the API's version and its kind by texts
-unfoldable pub kind_word_in : Json → Result (List ℕ) Field
-kind_word_in json = do
-  body ← object field.Body (out-Json json)
-  api ← text field.ApiVersion (under (codes "apiVersion") body)
-  text field.Kind (under (codes "kind") body)
-
 abbrev pub one_of_three : Option ClientKind → Result ClientKind ManifestRefusal
 one_of_three None = Err (Mismatch part.Kind)
 one_of_three (Some kind) = Ok kind
 
-abbrev pub kind_of_word : Result (List ℕ) Field → Result ClientKind ManifestRefusal
-kind_of_word (Ok word) = one_of_three (kind_named word)
-kind_of_word (Err field) = Err (WrongShape field)
+-- The kind that an object says by itself, in the version of the API. Where its `apiVersion` and its `kind` are texts, a kind that isn't one
+-- of the three comes first, then another API or version, and what else is wrong with it after both.
+unfoldable pub kind_said : Json → Result ClientKind ManifestRefusal
+kind_said json = do
+  body ← shaped (object field.Body (out-Json json))
+  api ← shaped (text field.ApiVersion (under (codes "apiVersion") body))
+  word ← shaped (text field.Kind (under (codes "kind") body))
+  kind ← one_of_three (kind_named word)
+  fits ← keeps (bytes_eq api api_version) (Mismatch part.ApiVersion)
+  Ok kind
 
 -- the manifest that a value gives by itself, or why it is refused
 unfoldable pub checked : Json → Result Manifest ManifestRefusal
 checked json = do
-  kind ← kind_of_word (kind_word_in json)
+  kind ← kind_said json
   accepted checking kind json
 
 -- the same of a body

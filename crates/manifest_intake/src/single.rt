@@ -10,7 +10,7 @@ use crate::matching::Purpose;
 use crate::refusal::{IntakeError, ManifestRefusal, Part};
 use json_tree::{Json, Members, Text};
 use resource_codec::Field;
-use resource_types::{ClientKind, Manifest};
+use resource_types::{ClientKind, Manifest, api_version};
 use std::alloc::Global;
 
 fn kind_named(word: &Text) -> Option<ClientKind>
@@ -24,22 +24,28 @@ fn kind_named(word: &Text) -> Option<ClientKind>
     }
 }
 
-/// The kind that a value says.
-#[tactic(auto, unfolding(crate::specs::Intake::kind_word_in))]
+/// The kind that a value says, in the version of the API.
+#[tactic(auto, unfolding(crate::specs::Intake::kind_said))]
 fn kind_in(json: &Json) -> Result<ClientKind, ManifestRefusal>
-    ensures { result ≡ spec.kind_of_word (spec.kind_word_in json.now) }
+    ensures { result ≡ spec.kind_said json.now }
 {
     let members = match json {
         Json::Obj(members) => members,
         _ => return Err(ManifestRefusal::WrongShape(Field::Body)),
     };
-    match members.get("apiVersion") {
-        Some(Json::Str(_)) => {}
+    let api = match members.get("apiVersion") {
+        Some(Json::Str(api)) => api,
         _ => return Err(ManifestRefusal::WrongShape(Field::ApiVersion)),
-    }
-    match members.get("kind") {
-        Some(Json::Str(word)) => kind_named(word).ok_or(ManifestRefusal::Mismatch(Part::Kind)),
-        _ => Err(ManifestRefusal::WrongShape(Field::Kind)),
+    };
+    let word = match members.get("kind") {
+        Some(Json::Str(word)) => word,
+        _ => return Err(ManifestRefusal::WrongShape(Field::Kind)),
+    };
+    let kind = kind_named(word).ok_or(ManifestRefusal::Mismatch(Part::Kind))?;
+    if api.is(api_version()) {
+        Ok(kind)
+    } else {
+        Err(ManifestRefusal::Mismatch(Part::ApiVersion))
     }
 }
 
@@ -53,8 +59,8 @@ fn check_value(alloc: Global, json: &Json) -> Result<Manifest, IntakeError>
 }
 
 /// The manifest that the bytes of a body give by themselves, with its defaults. Its kind is the one that it says; any
-/// namespace that is a label fits. It is refused for the first reason that holds, as a manifest that is to make an
-/// object is.
+/// namespace that is a label fits. It is refused for the first reason that holds: behind the texts `apiVersion` and `kind` a
+/// kind that isn't one of the three, then another API or version, and then as a manifest that is to make an object is.
 pub fn check_body(alloc: Global, bytes: &[u8]) -> Result<Manifest, IntakeError>
     ensures checks { spec.Checks bytes.now result }
     // The manifest can be written.
