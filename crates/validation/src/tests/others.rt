@@ -1,7 +1,39 @@
 //! Defaults and texts.
 use super::{Draft, IMAGE, PLAIN, Sketch, configuration, route, service};
 use crate::{Place, Rule, place_text, rule_text, with_defaults};
+use json_tree::JsonError;
+use resource_types::Manifest;
+use std::alloc::{AllocError, Global};
 use std::test::Fail;
+
+// Whether the defaults of one manifest make it the other.
+fn becomes(alloc: Global, given: Manifest, full: &Manifest) -> Result<bool, AllocError> {
+    Ok(with_defaults(alloc, given)? == *full)
+}
+
+fn service_becomes(
+    alloc: Global,
+    sketch: Sketch,
+    drafts: &[Draft],
+    full_sketch: Sketch,
+    full_drafts: &[Draft],
+) -> Result<bool, JsonError> {
+    let given = service(alloc, "hello", sketch, drafts)?;
+    let full = service(alloc, "hello", full_sketch, full_drafts)?;
+    Ok(becomes(alloc, given, &full)?)
+}
+
+fn configuration_becomes(alloc: Global, sketch: Sketch, full: Sketch) -> Result<bool, JsonError> {
+    let given = configuration(alloc, "hello", sketch)?;
+    let full = configuration(alloc, "hello", full)?;
+    Ok(becomes(alloc, given, &full)?)
+}
+
+fn route_becomes(alloc: Global, drafts: &[Draft], full: &[Draft]) -> Result<bool, AllocError> {
+    let given = route(alloc, "hello", drafts)?;
+    let full = route(alloc, "hello", full)?;
+    becomes(alloc, given, &full)
+}
 
 #[test]
 fn fills(rt: HostRuntime) -> Result<(), Fail> {
@@ -34,25 +66,20 @@ fn fills(rt: HostRuntime) -> Result<(), Fail> {
             [Draft("", "", Some(false), Some(0), "")].as_slice(),
         ),
     ] {
-        let filled = with_defaults(alloc, service(alloc, "hello", sketch, drafts)?)?;
-        assert_eq!(rt; filled, service(alloc, "hello", full_sketch, full_drafts)?);
-        let filled = with_defaults(alloc, configuration(alloc, "hello", sketch)?)?;
-        assert_eq!(rt; filled, configuration(alloc, "hello", full_sketch)?);
+        assert!(rt; service_becomes(alloc, sketch, drafts, full_sketch, full_drafts)?);
+        assert!(rt; configuration_becomes(alloc, sketch, full_sketch)?);
     }
-    let filled = with_defaults(alloc, route(alloc, "hello", [].as_slice())?)?;
-    assert_eq!(rt; filled, route(alloc, "hello", [].as_slice())?);
-    let filled = with_defaults(
-        alloc,
-        route(alloc, "hello", [Draft("", "r", None, None, "")].as_slice())?,
-    )?;
-    assert_eq!(rt;
-        filled,
-        route(
-            alloc,
-            "hello",
-            [Draft("", "r", Some(false), Some(0), "")].as_slice()
-        )?
-    );
+    Ok(())
+}
+
+#[test]
+fn fills_routes(rt: HostRuntime) -> Result<(), Fail> {
+    let alloc = rt.alloc();
+    let none = [].as_slice();
+    assert!(rt; route_becomes(alloc, none, none)?);
+    let given = [Draft("", "r", None, None, "")].as_slice();
+    let full = [Draft("", "r", Some(false), Some(0), "")].as_slice();
+    assert!(rt; route_becomes(alloc, given, full)?);
     Ok(())
 }
 
