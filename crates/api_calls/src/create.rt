@@ -29,6 +29,8 @@ fn not_there(alloc: Global, kind: Kind, name: &Text, found: Option<&Object>) -> 
 }
 
 /// Makes the object that a body asks for in a namespace.
+///
+/// It is refused for the first of these that holds: a reason to refuse the body's manifest, and `AlreadyExists`.
 #[tactic(auto, unfolding(crate::specs::Calls::creating))]
 pub fn creating(
     alloc: Global,

@@ -92,6 +92,9 @@ fn patch_standing(
 }
 
 /// Changes the object that stands as a body says.
+///
+/// It is refused for the first of these that holds: an unreadable body, `NotFound`, a reason to refuse the manifest of the patched
+/// document, `Conflict`, where that gives a version, and `KeptName`.
 #[tactic(auto, unfolding(crate::specs::Calls::patching))]
 pub fn patching(
     alloc: Global,

@@ -22,7 +22,7 @@ fn is_served(kind: Kind) -> bool
     }
 }
 
-/// The list of a kind in a namespace.
+/// The list of a kind in a namespace. `NoSuchPath` refuses a kind without paths of its own, here and below.
 #[tactic(auto, unfolding(crate::specs::Calls::listing), using(crate::proofs::Kept::shown_all))]
 pub fn listing(
     alloc: Global,
@@ -40,7 +40,8 @@ pub fn listing(
     Ok(Outcome::only(reply_of(alloc, 200, &list)?))
 }
 
-/// What changed among the objects of a kind in a namespace after a version.
+/// What changed among the objects of a kind in a namespace after a version. `BeyondNewest` refuses a version that the journal
+/// hasn't reached.
 #[tactic(auto, unfolding(crate::specs::Calls::polling), using(crate::proofs::Kept::shown_all))]
 pub fn polling(
     alloc: Global,
@@ -61,7 +62,7 @@ pub fn polling(
     Ok(Outcome::only(reply_of(alloc, 200, &poll)?))
 }
 
-/// One object.
+/// One object. `NotFound` refuses it where there is none.
 #[tactic(auto, unfolding(crate::specs::Calls::reading))]
 pub fn reading(
     alloc: Global,

@@ -41,7 +41,8 @@ fn removal_of(alloc: Global, object: &Object) -> Result<Outcome, AllocError>
     })
 }
 
-/// Removes the object of a namespace and a name.
+/// Removes the object of a namespace and a name. `NotFound` refuses it where there is none, and `NoSuchPath` where it is of a
+/// kind that clients don't remove.
 #[tactic(auto, unfolding(crate::specs::Calls::removing))]
 pub fn removing(
     alloc: Global,

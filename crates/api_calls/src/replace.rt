@@ -66,6 +66,9 @@ fn gives_version(manifest: &Manifest) -> bool
 }
 
 /// Puts the object that a body asks for in place of the one that stands.
+///
+/// It is refused for the first of these that holds: a reason to refuse the body's manifest, `VersionMissing`, `NotFound`,
+/// `Conflict`, and `KeptName`.
 #[tactic(auto, unfolding(crate::specs::Calls::replacing))]
 pub fn replacing(
     alloc: Global,
