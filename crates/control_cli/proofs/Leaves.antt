@@ -65,11 +65,11 @@ short old new answered f = elim f [
 
 pub leaves : (old new : SessionState State) (answered : ℕ) (end : SessionEnd)
     → Finishes Asks AskCut After After Leave old new answered end → ReplayLeaves old new (status_of end)
-leaves old new answered Clean a = answers old new answered [] _ _ (λ bytes asked e. inl (e.stream, e.all)) a
-leaves old new answered Cut a = answers old new answered [] _ _ (λ bytes asked e. (e.stream, e.all)) a
+leaves old new answered Clean a = answers old new answered [] _ _ (λ bytes asked e. inl (e.stream, e.all, e.short)) a
+leaves old new answered Cut a = answers old new answered [] _ _ (λ bytes asked e. (e.stream, e.all, e.short)) a
 leaves old new answered Closed a = answers old new answered [] _ _ (λ bytes asked e. inr e) a
 leaves old new answered (Bad fault) a = (fault, answers old new answered _ _ _ (λ bytes asked e. e) a)
-leaves old new answered ReadFault (rose, a) = (rose, answers old new answered [] _ _ (λ bytes asked e. e.0) a)
+leaves old new answered ReadFault (rose, a) = (rose, answers old new answered [] _ _ (λ bytes asked e. e) a)
 leaves old new answered TooLong a = answers old new answered [] _ _ (λ bytes asked e. e) a
 leaves old new answered WriteFault (rose, f) = (rose, elim f [ inl a ↦ inl (cuts_reply old new answered a) | inr a ↦ inr (cuts_refusal old new answered a) ])
 leaves old new answered Memory f = short old new answered f

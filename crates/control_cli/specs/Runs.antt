@@ -30,13 +30,14 @@ pub record Answers (old new : SessionState State) (tail : List ℕ) (IsEnd : Lis
   pub replays : Replays old new bytes done new.handler tail
   pub end : IsEnd bytes (asked_in done)
 
--- the input was read to its end, or to a request that closes, and these are its requests up to there
+-- the input was read to its end, which came before the most bytes that a session takes, or to a request that closes, and these are its requests
+-- up to there
 abbrev pub IsWhole : Option (List ℕ) → List ℕ → List Asked → Type 0
-IsWhole left bytes asked = (IsStream bytes asked stream.Clean × IsAll left bytes) ⊎ IsStream bytes asked stream.Closed
+IsWhole left bytes asked = (IsStream bytes asked stream.Clean × IsAll left bytes × (length bytes < 4294967295)) ⊎ IsStream bytes asked stream.Closed
 
--- the input ended inside the request behind these
+-- the input ended inside the request behind these, before the most bytes that a session takes
 abbrev pub IsCut : Option (List ℕ) → List ℕ → List Asked → Type 0
-IsCut left bytes asked = IsStream bytes asked stream.Cut × IsAll left bytes
+IsCut left bytes asked = IsStream bytes asked stream.Cut × IsAll left bytes × (length bytes < 4294967295)
 
 -- a head was refused behind these requests, and its reply was written whole
 abbrev pub AnswersBad : SessionState State → SessionState State → Type 0
@@ -71,7 +72,8 @@ abbrev pub ReplayLeaves : SessionState State → SessionState State → Status �
 ReplayLeaves old new Done = Answers old new [] (IsWhole old.left)
 ReplayLeaves old new Cut = Answers old new [] (IsCut old.left)
 ReplayLeaves old new BadRequest = AnswersBad old new
-ReplayLeaves old new ReadFault = Rose old.reads_failed new.reads_failed × Answers old new [] IsUnfinished
+ReplayLeaves old new ReadFault =
+    Rose old.reads_failed new.reads_failed × Answers old new [] (λ bytes asked. IsUnfinished bytes asked × (length bytes < 4294967295))
 ReplayLeaves old new TooLong = Answers old new [] (λ bytes asked. IsUnfinished bytes asked × (length bytes ≡ 4294967295))
 ReplayLeaves old new WriteFault = Rose old.writes_failed new.writes_failed × (CutsReply old new ⊎ CutsRefusal old new)
 ReplayLeaves old new Memory = Answers old new [] AreFirst

@@ -35,9 +35,8 @@ pub fn poll_json(
 ) -> Result<Json, AllocError>
     requires within { after ≤ length store.now.entries }
     requires kind { kind ≢ Kind.Health }
-    requires shown { AreShown store.now.entries }
     ensures poll { IfOk result (λ j. j ≡ poll_of store.now.entries kind (option_copied space.entry) after) }
-    ensures well { IfOk result (λ j. IsTrue (is_well_formed j) × (depth_of j ≤ 43)) }
+    ensures well { AreShown store.now.entries → IfOk result (λ j. IsTrue (is_well_formed j) × (depth_of j ≤ 43)) }
 {
     let version = store.version();
     let told = told_after(alloc, store.entries(), kind, space, after, version)?;

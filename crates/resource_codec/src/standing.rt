@@ -23,9 +23,8 @@ pub fn list_of(
     space: Option<&Text>,
 ) -> Result<Json, AllocError>
     requires kind { kind ≢ Kind.Health }
-    requires shown { AreShown store.now.entries }
     ensures list { IfOk result (λ j. j ≡ list_of store.now.entries kind (option_copied space.entry)) }
-    ensures well { IfOk result (λ j. IsTrue (is_well_formed j) × (depth_of j ≤ 42)) }
+    ensures well { AreShown store.now.entries → IfOk result (λ j. IsTrue (is_well_formed j) × (depth_of j ≤ 42)) }
 {
     let items = items_of(alloc, store, kind, space)?;
     list_json(alloc, kind, items, store.version())

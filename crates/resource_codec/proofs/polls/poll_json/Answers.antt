@@ -5,8 +5,8 @@ use Rattle.resource_codec.proofs.Polled.{events_fit}
 use Rattle.resource_codec.proofs.polls.poll_json.Goals as goal
 
 pub returns-clause-well : goal.returns-clause-well
-returns-clause-well c =
+returns-clause-well c shown =
     let space = option_copied c.args.space in
-    let fit = events_fit c.args.store.now.entries c.args.kind space c.args.after most_events c.requires.shown in
+    let fit = events_fit c.args.store.now.entries c.args.kind space c.args.after most_events shown in
     let e = c.in_ok-told.ensures.events ∙ ap (λ es. map (event_of es) (take most_events (changes_after es c.args.kind space c.args.after))) c.entries.ensures in
     c.poll_form.ensures.well (rw e fit.well) (rw e fit.deep)
