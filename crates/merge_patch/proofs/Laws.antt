@@ -23,7 +23,7 @@ well-value_or_null k ms w = go (lookup k ms) refl
     go (Some d) is = well-lookup k ms d w is
     go None is = refl
 
-rises-changed : (k : List ℕ) (d : Data) (ms : Members) → rises ms ≡ true → rises (changed k d ms) ≡ true
+pub rises-changed : (k : List ℕ) (d : Data) (ms : Members) → rises ms ≡ true → rises (changed k d ms) ≡ true
 rises-changed k d ms r = go (is_null d)
   where
     go : (t : Bool) → rises (cond t (without k ms) (put k (merge_of (value_or_null k ms) d) ms)) ≡ true
@@ -41,7 +41,7 @@ pub rises-merged : (ms changes : Members) → rises ms ≡ true → rises (merge
 rises-merged ms no_members r = r
 rises-merged ms (member k d changes) r = rises-merged (changed k d ms) changes (rises-changed k d ms r)
 
-members_rise : (t : Data) → is_well t ≡ true → rises (members_of t) ≡ true
+pub members_rise : (t : Data) → is_well t ≡ true → rises (members_of t) ≡ true
 members_rise null w = refl
 members_rise (boolean b) w = refl
 members_rise (number n) w = refl
@@ -118,14 +118,14 @@ mutual
 
 -- ---- the same patch again
 
-lookup-changed : (k : List ℕ) (d : Data) (ms : Members) → rises ms ≡ true → lookup k (changed k d ms) ≡ cond (is_null d) None (Some (merge_of (value_or_null k ms) d))
+pub lookup-changed : (k : List ℕ) (d : Data) (ms : Members) → rises ms ≡ true → lookup k (changed k d ms) ≡ cond (is_null d) None (Some (merge_of (value_or_null k ms) d))
 lookup-changed k d ms r = go (is_null d)
   where
     go : (t : Bool) → lookup k (cond t (without k ms) (put k (merge_of (value_or_null k ms) d) ms)) ≡ cond t None (Some (merge_of (value_or_null k ms) d))
     go true = lookup-without k ms r
     go false = lookup-put k (merge_of (value_or_null k ms) d) ms
 
-lookup-changed-other : (k q : List ℕ) (d : Data) (ms : Members) → bytes_eq k q ≡ false → lookup q (changed k d ms) ≡ lookup q ms
+pub lookup-changed-other : (k q : List ℕ) (d : Data) (ms : Members) → bytes_eq k q ≡ false → lookup q (changed k d ms) ≡ lookup q ms
 lookup-changed-other k q d ms other = go (is_null d)
   where
     go : (t : Bool) → lookup q (cond t (without k ms) (put k (merge_of (value_or_null k ms) d) ms)) ≡ lookup q ms
@@ -133,7 +133,7 @@ lookup-changed-other k q d ms other = go (is_null d)
     go false = lookup-put-other k q (merge_of (value_or_null k ms) d) ms other
 
 -- a name before those of the changes keeps its value
-lookup-merged : (q : List ℕ) (ms changes : Members) → is_before_all q (member_names changes) ≡ true → lookup q (merged ms changes) ≡ lookup q ms
+pub lookup-merged : (q : List ℕ) (ms changes : Members) → is_before_all q (member_names changes) ≡ true → lookup q (merged ms changes) ≡ lookup q ms
 lookup-merged q ms no_members b = refl
 lookup-merged q ms (member k d changes) b =
     let parts = both (is_lt (slice_cmp nat_cmp q k)) (is_before_all q (member_names changes)) b in

@@ -3,6 +3,7 @@ ghost use Rattle.std.specs.Prelude.{◌≡◌, ◌≤◌, max, IsTrue, IfOk};
 ghost use Rattle.serde_json.specs.Data.{object};
 ghost use Rattle.json_tree.specs.Tree.{data_of, depth_of, is_well, is_well_formed, table_data};
 ghost use Rattle.merge_patch.specs.Merge as spec;
+ghost use Rattle.merge_patch.specs.Members.{IsMerge};
 
 use crate::taken::take;
 use json_tree::{Json, Members, Text};
@@ -22,6 +23,7 @@ pub fn merge(alloc: Global, target: Json, patch: &Json) -> Result<Json, AllocErr
     requires target { IsTrue (is_well_formed target) }
     requires patch { IsTrue (is_well_formed patch.now) }
     ensures value { IfOk result (λ all. data_of all ≡ spec.merge_of (data_of target) (data_of patch.now)) }
+    ensures members { IfOk result (λ all. IsMerge (data_of target) (data_of patch.now) (data_of all)) }
     ensures well_formed { IfOk result (λ all. IsTrue (is_well_formed all)) }
     ensures depth { IfOk result (λ all. depth_of all ≤ max (depth_of target) (depth_of patch.now)) }
     ensures again { IfOk result (λ all. spec.merge_of (data_of all) (data_of patch.now) ≡ data_of all) }

@@ -5,6 +5,7 @@ use Rattle.json_tree.specs.declared.value.Json.{Json}
 use Rattle.json_tree.proofs.Laws.{data_of-object}
 use Rattle.merge_patch.specs.Merge as spec
 use Rattle.merge_patch.proofs.Laws.{well-inside, well-members_of, well-merge_of, depth-merge_of, merge_of-again}
+use Rattle.merge_patch.proofs.ByName.{is_merge}
 use Rattle.merge_patch.proofs.Steps.{item_depth, item_well, one_change}
 use Rattle.merge_patch.proofs.patch.+merge.Goals as goal
 
@@ -50,6 +51,10 @@ merge-returns-in_ok-members-in-Obj-clause-value t c =
     ap data_of c.in-Obj.is ∙ data_of-object c.in-Obj.changes ∙ ap (λ (es : List (List ℕ × Json)). object (table_data es)) (sym c.entries.ensures) in
     let all = c.in_ok-members-in-Obj.ensures ∙ ap (λ (ms : Members). spec.merged ms (table_data c.entries.result.now)) c.members_of.ensures in
     data_of-object c.in_ok-members-in-Obj.members ∙ ap object all ∙ ap (spec.merge_of (data_of c.args.target)) (sym patch)
+
+pub merge-returns-in_ok-members-in-Obj-clause-members : goal.merge-returns-in_ok-members-in-Obj-clause-members
+merge-returns-in_ok-members-in-Obj-clause-members t c =
+    is_merge (data_of c.args.target) (data_of c.args.patch.now) _ (merge-returns-in_ok-members-in-Obj-clause-value t c) c.requires.target c.requires.patch
 
 pub merge-returns-in_ok-members-in-Obj-clause-well_formed : goal.merge-returns-in_ok-members-in-Obj-clause-well_formed
 merge-returns-in_ok-members-in-Obj-clause-well_formed t c =
