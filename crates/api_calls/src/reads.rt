@@ -23,7 +23,7 @@ fn is_served(kind: Kind) -> bool
 }
 
 /// The list of a kind in a namespace. `NoSuchPath` refuses a kind without paths of its own, here and below.
-#[tactic(auto, unfolding(crate::specs::Calls::listing), using(crate::proofs::Kept::shown_all))]
+#[tactic(auto, unfolding(crate::specs::Calls::listing))]
 pub fn listing(
     alloc: Global,
     store: &Store<Object>,
@@ -42,7 +42,7 @@ pub fn listing(
 
 /// What changed among the objects of a kind in a namespace after a version. `BeyondNewest` refuses a version that the journal
 /// hasn't reached.
-#[tactic(auto, unfolding(crate::specs::Calls::polling), using(crate::proofs::Kept::shown_all))]
+#[tactic(auto, unfolding(crate::specs::Calls::polling))]
 pub fn polling(
     alloc: Global,
     store: &Store<Object>,
