@@ -1,3 +1,4 @@
 pub mod Kept
 pub mod Made
 pub mod Patches
+pub mod Versioned

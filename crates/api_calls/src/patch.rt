@@ -2,6 +2,7 @@
 ghost use Rattle.std.specs.Prelude.{◌≡◌, ◌<◌, ◌-◌, ◌^◌, length, IfOk};
 ghost use Rattle.std.specs.Option.{ForSome};
 ghost use Rattle.api_calls.specs.Calls as spec;
+ghost use Rattle.api_calls.specs.Versioned.{IsPutOf};
 ghost use Rattle.api_replies.specs.Kept.{AreKept, IsReadable, IsPatchable};
 ghost use Rattle.api_replies.specs.Outcomes.{Comes, IsFit};
 
@@ -109,6 +110,7 @@ pub fn patching(
     requires room { length store.now.entries < 2 ^ 64 - 1 }
     requires body { ForSome body IsReadable }
     ensures answer { Comes result (spec.patching store.now.entries moment kind space.now name.now body) }
+    ensures as_put { IfOk result (λ o. IsPutOf store.now.entries moment kind space.now name.now body o) }
     ensures fits { IfOk result IsFit }
 {
     let patch = readable(body)?;
