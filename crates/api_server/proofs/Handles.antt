@@ -5,6 +5,7 @@ use Rattle.http_session.specs.declared.message.Reply.{Reply}
 use Rattle.resource_types.specs.Lookups.{Log}
 use Rattle.api_server.specs.declared.mark.Mark.{Mark}
 use Rattle.api_server.proofs.Unique.{one_answer}
+use Rattle.api_server.proofs.AsPut.{patches_as_replaced}
 use Rattle.api_server.specs.Ask.{State, Asks, Answers, AnswersAt, later, journal_after, after_request}
 
 pub asks_of : (old : State) (now : Option ℕ) (request : Request) (reply : Reply) (journal : Log) (marks : List Mark) (moment : ℕ) → moment ≡ later old.moment now
@@ -13,6 +14,7 @@ asks_of old now request reply journal marks moment e a = record {
   outcome = a.outcome;
   answers = subst (λ (m : ℕ). Answers old.journal m request a.outcome) e a.answers;
   only = λ other b. one_answer old.journal (later old.moment now) request other a.outcome b (subst (λ (m : ℕ). Answers old.journal m request a.outcome) e a.answers);
+  as_put = patches_as_replaced old.journal (later old.moment now) request a.outcome (subst (λ (m : ℕ). Answers old.journal m request a.outcome) e a.answers);
   replies = a.replies;
   changes =
       ap (λ (j : Log). record old { journal = j; moment = moment; marks = marks }) a.written

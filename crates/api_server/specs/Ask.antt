@@ -6,6 +6,7 @@ use Rattle.http_session.specs.declared.message.Reply.{Reply}
 use Rattle.version_store.specs.declared.write.Write.{Write}
 use Rattle.version_store.specs.Apply.{entries_after}
 use Rattle.resource_types.specs.declared.names.Kind.{Kind}
+use Rattle.resource_types.specs.declared.names.ClientKind.{ClientKind}
 use Rattle.resource_types.specs.declared.names.Key.{Key}
 use Rattle.resource_types.specs.declared.names.Name.{Name}
 use Rattle.resource_types.specs.declared.names.Actor.{Actor}
@@ -14,6 +15,7 @@ use Rattle.resource_types.specs.declared.objects.Object.{Object}
 use Rattle.resource_types.specs.contracts.names.KeyOrd.TheImpl as key_order
 use Rattle.resource_types.specs.contracts.item.ObjectItem.TheImpl as object_item
 use Rattle.resource_types.specs.Lookups.{Log}
+use Rattle.resource_types.specs.Manifests.{object_kind}
 use Rattle.api_paths.specs.declared.calls.PathError.{PathError}
 use Rattle.api_paths.specs.Paths as paths
 use Rattle.api_paths.specs.Route.{call_of}
@@ -22,7 +24,9 @@ use Rattle.api_replies.specs.declared.outcome.Outcome.{Outcome}
 use Rattle.api_replies.specs.declared.refusal.Refusal.TheVariants.{NoSuchPath}
 use Rattle.api_replies.specs.Replies.{path_refused}
 use Rattle.api_replies.specs.Outcomes.{ClientPlan, Answer, only, settled}
-use Rattle.api_calls.specs.Calls.{listing, polling, reading, creating, replacing, patching, removing}
+use Rattle.api_objects.specs.Puts.{standing, version_text}
+use Rattle.api_calls.specs.Calls.{listing, polling, reading, creating, replacing, patching, patched_document, removing}
+use Rattle.api_calls.specs.Versioned.{versioned}
 use Rattle.api_server.specs.declared.mark.Mark.{Mark}
 
 -- a world: all that was written, the moment, and a mark for each request that was answered
@@ -56,6 +60,28 @@ AnswersRoute journal moment bytes (Ok call) outcome = AnswersCall journal moment
 -- the reply to a request over the journal at a moment, and the write that it makes, if any
 unfoldable pub Answers : Log → ℕ → Request → Outcome → Type 0
 Answers journal moment request outcome = AnswersRoute journal moment request.body (call_of request.method request.target) outcome
+
+-- ---- a patch is a replacement
+
+-- the request makes the call
+abbrev pub Makes : Request → paths.Call → Type 0
+Makes request call = call_of request.method request.target ≡ Ok call
+
+-- The outcome is that of each replacement of the same object whose body is a text of what the patch makes of the document that stands, with the
+-- version that stands.
+pub record IsAsPut (journal : Log) (moment : ℕ) (kind : ClientKind) (space name : List ℕ) (body : Option Json) (outcome : Outcome) : Type 0 where
+  pub old : Object
+  pub patch : Json
+  pub given : body ≡ Some patch
+  pub stands : standing journal (object_kind kind) space name ≡ Some old
+  pub put : (other : Request) → Makes other (paths.replace kind space name)
+      → IsBody other.body (Some (versioned (version_text old) (patched_document old patch))) → Answers journal moment other outcome
+
+-- where the request is a patch that isn't refused, its outcome is that of such a replacement, over the same journal and at the same moment
+abbrev pub PatchesAsPut : Log → ℕ → Request → Outcome → Type 0
+PatchesAsPut journal moment request outcome =
+    (kind : ClientKind) (space name : List ℕ) (body : Option Json) (made : Outcome) → Makes request (paths.patch kind space name)
+    → IsBody request.body body → patching journal moment kind space name body ≡ Ok made → IsAsPut journal moment kind space name body outcome
 
 -- ---- the change
 
@@ -93,11 +119,13 @@ pub record AnswersAt (old new : Log) (before now : List Mark) (moment : ℕ) (re
   pub written : new ≡ journal_after old moment outcome.plan
   pub marked : now ≡ before ++ mark_at old moment ∷ []
 
--- a request: its reply and its write are those over the journal at its mark, and the journal, the moment and the request give no other
+-- a request: its reply and its write are those over the journal at its mark, and the journal, the moment and the request give no other; a patch
+-- that isn't refused has those of the replacement that its result makes
 pub record Asks (old : State) (now : Option ℕ) (request : Request) (reply : Reply) (new : State) : Type 0 where
   pub outcome : Outcome
   pub answers : Answers old.journal (later old.moment now) request outcome
   pub only : (other : Outcome) → Answers old.journal (later old.moment now) request other → other ≡ outcome
+  pub as_put : PatchesAsPut old.journal (later old.moment now) request outcome
   pub replies : reply ≡ outcome.reply
   pub changes : new ≡ after_request old (later old.moment now) outcome.plan
 
