@@ -78,24 +78,32 @@ fn part(alloc: Global) -> Result<Part, AllocError> {
     })
 }
 
-fn object(alloc: Global, kind: Kind, simple: &str, body: Body) -> Result<Object, AllocError> {
-    Ok(Object {
-        key: Key {
-            kind,
-            name: name(alloc, simple)?,
+fn key(alloc: Global, kind: Kind, simple: &str) -> Result<Key, AllocError> {
+    Ok(Key {
+        kind,
+        name: name(alloc, simple)?,
+    })
+}
+
+fn meta(alloc: Global) -> Result<Meta, AllocError> {
+    Ok(Meta {
+        stamp: Stamp {
+            version: 12,
+            generation: 1,
+            uid: 5,
+            created: 0,
         },
-        meta: Meta {
-            stamp: Stamp {
-                version: 12,
-                generation: 1,
-                uid: 5,
-                created: 0,
-            },
-            owner: None,
-            labels: labels(alloc)?,
-            annotations: Labels::new(alloc),
-        },
-        body,
+        owner: None,
+        labels: labels(alloc)?,
+        annotations: Labels::new(alloc),
+    })
+}
+
+fn owner(alloc: Global, uid: u64) -> Result<Owner, AllocError> {
+    Ok(Owner {
+        kind: Kind::Configuration,
+        name: Text::new(alloc, "hello")?,
+        uid,
     })
 }
 
@@ -106,72 +114,91 @@ fn revision(
     generation: u64,
     truth: Truth,
 ) -> Result<Object, AllocError> {
+    let key = key(alloc, Kind::Revision, simple)?;
+    let owner = owner(alloc, uid)?;
+    let meta = Meta {
+        owner: Some(owner),
+        ..meta(alloc)?
+    };
+    let spec = pod_spec(alloc)?;
     let body = Body::Revision {
-        spec: pod_spec(alloc)?,
+        spec,
         generation,
         pins: Seq::new(alloc),
         active: Some(9),
         status: status(alloc, truth)?,
     };
-    let mut revision = object(alloc, Kind::Revision, simple, body)?;
-    revision.meta.owner = Some(Owner {
-        kind: Kind::Configuration,
-        name: Text::new(alloc, "hello")?,
-        uid,
-    });
-    Ok(revision)
+    Ok(Object { key, meta, body })
 }
 
 fn configuration(alloc: Global) -> Result<Object, AllocError> {
-    let body = Body::Configuration {
-        template: template(alloc)?,
-        status: ObjectStatus::empty(alloc)?,
-    };
-    object(alloc, Kind::Configuration, "hello", body)
+    let key = key(alloc, Kind::Configuration, "hello")?;
+    let meta = meta(alloc)?;
+    let template = template(alloc)?;
+    let status = ObjectStatus::empty(alloc)?;
+    let body = Body::Configuration { template, status };
+    Ok(Object { key, meta, body })
 }
 
 fn service(alloc: Global) -> Result<Object, AllocError> {
+    let key = key(alloc, Kind::Service, "hello")?;
+    let meta = meta(alloc)?;
+    let template = template(alloc)?;
+    let traffic = traffic(alloc, "")?;
+    let status = status(alloc, Truth::Unknown)?;
     let body = Body::Service {
-        template: template(alloc)?,
-        traffic: traffic(alloc, "")?,
-        status: status(alloc, Truth::Unknown)?,
+        template,
+        traffic,
+        status,
     };
-    object(alloc, Kind::Service, "hello", body)
+    Ok(Object { key, meta, body })
 }
 
 fn route(alloc: Global, target: &str) -> Result<Object, AllocError> {
-    let body = Body::Route {
-        traffic: traffic(alloc, target)?,
-        status: ObjectStatus::empty(alloc)?,
-    };
-    object(alloc, Kind::Route, "hello", body)
+    let key = key(alloc, Kind::Route, "hello")?;
+    let meta = meta(alloc)?;
+    let traffic = traffic(alloc, target)?;
+    let status = ObjectStatus::empty(alloc)?;
+    let body = Body::Route { traffic, status };
+    Ok(Object { key, meta, body })
 }
 
 fn health(alloc: Global) -> Result<Object, AllocError> {
+    let key = key(alloc, Kind::Health, "hello-00001")?;
+    let meta = meta(alloc)?;
+    let resources = part(alloc)?;
+    let container = part(alloc)?;
     let body = Body::Health {
         uid: 3,
-        resources: part(alloc)?,
-        container: part(alloc)?,
+        resources,
+        container,
         ever: true,
     };
-    object(alloc, Kind::Health, "hello-00001", body)
+    Ok(Object { key, meta, body })
 }
 
-fn table(alloc: Global) -> Result<Object, AllocError> {
-    let mut rows = Seq::new(alloc);
-    rows.push(Row {
+fn row(alloc: Global) -> Result<Row, AllocError> {
+    Ok(Row {
         tag: Text::new(alloc, "")?,
         host: Text::new(alloc, "hello.default.example.com")?,
         revision: Text::new(alloc, "hello-00001")?,
         uid: 3,
         percent: 100,
-    })?;
+    })
+}
+
+fn table(alloc: Global) -> Result<Object, AllocError> {
+    let key = key(alloc, Kind::Table, "hello")?;
+    let meta = meta(alloc)?;
+    let targets = traffic(alloc, "hello-00001")?;
+    let mut rows = Seq::new(alloc);
+    rows.push(row(alloc)?)?;
     let body = Body::Table {
         route: 5,
         rows,
-        targets: traffic(alloc, "hello-00001")?,
+        targets,
     };
-    object(alloc, Kind::Table, "hello", body)
+    Ok(Object { key, meta, body })
 }
 
 // Fails unless the object has an equal copy, which isn't that other one.
