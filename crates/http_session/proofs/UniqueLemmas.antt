@@ -63,6 +63,7 @@ rest_of (bad fault) = []
 rest_of clean = []
 rest_of cut = []
 
+-- one list of bytes has at most one stream
 pub IsStream-unique : (bytes : List ℕ) (qs rs : List Asked) (e f : StreamEnd) → IsStream bytes qs e → IsStream bytes rs f → (qs ≡ rs) × (e ≡ f)
 IsStream-unique bytes [] [] e f x y =
     let a = front_of_end bytes e x in
@@ -105,6 +106,7 @@ ends-append bytes more Cut final x = absurd final
 ends-append bytes more Closed final x = absurd x
 ends-append bytes more (Bad fault) final x = IsFront-append bytes more (bad fault) tt x
 
+-- what follows a refused head, or a request that asks for close, changes nothing
 pub IsStream-append : (bytes more : List ℕ) (qs : List Asked) (e : StreamEnd) → IsFinal e → IsStream bytes qs e → IsStream (bytes ++ more) qs e
 IsStream-append bytes more [] e final x = ends-append bytes more e final x
 IsStream-append bytes more (q ∷ qs) e final x = by_close (λ a. IsStream-append x.0 more qs e final a) q.closes refl

@@ -16,7 +16,7 @@ pub record Asks {H : Type 0} (asks : H → Option ℕ → Request → Reply → 
   pub moment : TakesMoment mode moments_old now moments_new
   pub answered : asks old now request reply new
 
--- memory was short, before the handler was asked or while it worked
+-- out of memory, before the handler was asked or while it worked
 abbrev pub AsksCut : {H : Type 0} → (H → Option ℕ → Request → H → Type 0) → ClockMode → Request → H → H → Option (List ℕ) → Option (List ℕ) → Type 0
 AsksCut asks_cut mode request old new moments_old moments_new =
     ((new ≡ old) × (moments_new ≡ moments_old))

@@ -4,6 +4,7 @@ use Rattle.std.specs.List.{list_any, list_all, slice_split}
 use Rattle.std.specs.Str.{str_eq_ignore_ascii_case}
 use Rattle.std.specs.Char.{is_ascii_digit}
 use Rattle.std.specs.Str.Parse.{digits_value}
+use Rattle.httparse.specs.Ascii.{comma}
 use Rattle.httparse.specs.Grammar.{trim_ows}
 use Rattle.http_session.specs.declared.report.HeadFault.{HeadFault}
 use Rattle.http_session.specs.declared.report.HeadFault.TheVariants.{BadLength, TransferEncoding, BodyTooLarge}
@@ -41,7 +42,7 @@ body_len fields =
 
 -- the value has `close` among its parts between commas
 abbrev pub has_close : List ℕ → Bool
-has_close value = list_any (λ part. str_eq_ignore_ascii_case (trim_ows part) (codes "close")) (slice_split (λ b. b == 44) value)
+has_close value = list_any (λ part. str_eq_ignore_ascii_case (trim_ows part) (codes "close")) (slice_split (λ b. b == comma) value)
 
 -- HTTP/1.0 closes, and so does a `Connection` field with `close`
 abbrev pub asks_close : ℕ → List (List ℕ × List ℕ) → Bool

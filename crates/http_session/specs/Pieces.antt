@@ -52,7 +52,7 @@ AsksInPieces asks writes old now request reply new =
     asks old.handler now request reply new.handler
     × ((closes : Bool) × WritesPieces writes old.sink (reply_pieces closes request.method reply) new.whole new.sink)
 
--- memory was short for a request, and nothing was written
+-- out of memory for a request, and nothing was written
 abbrev pub CutsInPieces : {H K : Type 0} → (H → Option ℕ → Request → H → Type 0) → Writer H K → Option ℕ → Request → Writer H K → Type 0
 CutsInPieces asks_cut old now request new = asks_cut old.handler now request new.handler × (new.sink ≡ old.sink) × (new.whole ≡ true)
 

@@ -131,7 +131,7 @@ CutsRefusal asks after mode old new answered =
     (fault : HeadFault) × (sent : ℕ) × (sent < length (fault_bytes fault))
     × Answered asks after mode old new answered (take sent (fault_bytes fault)) (λ bytes asked. IsStream bytes asked (stream.Bad fault))
 
--- memory was short for the handler's own work behind the last reply
+-- out of memory for the handler's own work behind the last reply
 pub record CutsAfter {H : Type 0} (asks : H → Option ℕ → Request → Reply → H → Type 0) (after after_cut : H → H → Type 0)
     (mode : ClockMode) (old new : SessionState H) (answered : ℕ) : Type 0 where
   pub bytes : List ℕ
@@ -145,7 +145,7 @@ pub record CutsAfter {H : Type 0} (asks : H → Option ℕ → Request → Reply
   pub cut : after_cut middle new.handler
   pub count : answered ≡ length done + 1
 
--- memory was short for the next request
+-- out of memory for the next request
 pub record CutsAsk {H : Type 0} (asks : H → Option ℕ → Request → Reply → H → Type 0) (asks_cut : H → Option ℕ → Request → H → Type 0)
     (after : H → H → Type 0) (mode : ClockMode) (old new : SessionState H) (answered : ℕ) : Type 0 where
   pub bytes : List ℕ

@@ -1,5 +1,6 @@
 -- The requests of a whole list of bytes, and its end.
 use Rattle.std.specs.Prelude.{◌≡◌, ℕ, ◌≤◌, ◌==◌, nat_lt, nat_le, Bool, false, List, [], ◌∷◌, length, take, drop, map, count_by, slice_range, Option, Some, None, Result, Ok, Err, if◌then◌else◌, MatchOption, MatchBool, ◌⊎◌}
+use Rattle.httparse.specs.Ascii.{line_feed}
 use Rattle.httparse.specs.Grammar.{RequestHead, ReadsRequest}
 use Rattle.httparse.specs.Spans.{name_and_value}
 use Rattle.http_session.specs.declared.report.HeadFault.{HeadFault}
@@ -58,7 +59,7 @@ without_block bytes =
 -- a block, whose head has these bytes: with its first line and its empty one it has at most 66 lines
 abbrev pub IsFrontOfBlock : List ℕ → List ℕ → Front → Type 0
 IsFrontOfBlock head after front =
-    MatchBool (nat_lt 66 (count_by (λ b. b == 10) head)) (front ≡ bad HeadTooLarge)
+    MatchBool (nat_lt 66 (count_by (λ b. b == line_feed) head)) (front ≡ bad HeadTooLarge)
     ((parsed : Option RequestHead) × ParsesTo head parsed × (front ≡ with_head parsed after))
 
 -- what stands at the front, by the first case that holds

@@ -1,6 +1,7 @@
 //! One request: its moment, its reply, and the writing of it.
-ghost use Rattle.std.specs.Prelude.{◌≡◌, ◌≤◌, ℕ, Option, true, IfOk, OnErr, IsUtf8};
+ghost use Rattle.std.specs.Prelude.{◌≡◌, ◌≢◌, ◌≤◌, ℕ, Option, true, IfOk, OnErr, IsUtf8};
 ghost use Rattle.std.specs.Option.{ForSome};
+ghost use Rattle.serve_io.specs.Clock.{last_moment};
 ghost use Rattle.http_session.specs.Front.{IsFoundIn, request_at, asked_at};
 ghost use Rattle.http_session.specs.Session.{TakesMoment};
 ghost use Rattle.http_session.specs.Reply.{IsReply};
@@ -25,14 +26,14 @@ pub(crate) enum Outcome {
     Sent,
     /// A write failed.
     Failed,
-    /// Memory was short for the request.
+    /// Out of memory for the request.
     Memory,
 }
 
 /// The moment for one request.
 fn take_moment<C: Clock>(clock: &mut C, mode: ClockMode) -> Option<u64>
     ensures moment { TakesMoment mode (C.moments clock.old) result (C.moments clock.new) }
-    ensures range { ForSome result (λ moment. moment ≤ 253402300799) }
+    ensures range { ForSome result (λ moment. moment ≤ last_moment) }
     ensures left { mode ≡ ClockMode.Leave → clock.new ≡ clock.old }
 {
     match mode {
@@ -102,6 +103,7 @@ pub(crate) fn answer<H: Handler, K: Sink, C: Clock>(
         (writer_of handler.old sink.old true) (writer_of handler.new sink.new (kept_whole result))
         (C.moments clock.old) (C.moments clock.new) (K.taken sink.old) (K.taken sink.new) (K.faults sink.old) (K.faults sink.new) result }
     ensures clock { mode ≡ ClockMode.Leave → clock.new ≡ clock.old }
+    ensures calm { result ≢ Outcome.Failed → K.faults sink.new ≡ K.faults sink.old }
 {
     let Ok(reply) = ask(alloc, handler, held, found, clock, mode) else {
         return Outcome::Memory;

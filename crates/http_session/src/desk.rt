@@ -1,5 +1,5 @@
 //! One turn of a session.
-ghost use Rattle.std.specs.Prelude.{◌≡◌, ◌≢◌, ◌+◌, ◌≤◌, ◌<◌, ◌^◌, ◌-◌, ◌*◌, ℕ, List, Option, IfNone, IfOk, length, drop, [], true};
+ghost use Rattle.std.specs.Prelude.{◌≡◌, ◌≢◌, ◌+◌, ◌≤◌, ◌<◌, ◌^◌, ◌-◌, ◌*◌, ℕ, List, Option, Some, IfNone, IfOk, length, drop, [], true};
 ghost use Rattle.http_session.specs.Front.{IsFoundIn, asked_at};
 ghost use Rattle.http_session.specs.Stream.{IsFront, whole};
 ghost use Rattle.http_session.specs.Session.{state_of};
@@ -46,6 +46,7 @@ fn serve_one<H: Handler, K: Sink, C: Clock>(
     ensures count { answered.new + length window.new ≤ answered.old + length window.old }
     ensures smaller { IfNone result (length window.new < length window.old) }
     ensures clock { mode ≡ ClockMode.Leave → clock.new ≡ clock.old }
+    ensures calm_sink { result ≢ Some SessionEnd.WriteFault → K.faults sink.new ≡ K.faults sink.old }
     ensures turn { (start : _) (left : Option (List ℕ)) (failed total : ℕ)
         → Progress H.asks H.after_gives mode start
         (state_of handler.old left failed (K.taken sink.old) (K.faults sink.old) (C.moments clock.old)) window.old total answered.old
@@ -93,6 +94,7 @@ fn read_more<S: Source>(window: &mut Window, source: &mut S, total: &mut u64) ->
     ensures bytes { Refills (S.left source.old) (S.left source.new) (S.faults source.old) (S.faults source.new) window.old window.new total.old total.new result }
     ensures room { length window.new ≤ 73728 }
     ensures kept { result ≢ More.Bytes → window.new ≡ window.old }
+    ensures calm { result ≢ More.Failed → S.faults source.new ≡ S.faults source.old }
 {
     if *total == MOST_BYTES {
         return More::TooLong;
@@ -121,6 +123,7 @@ fn read_until<S: Source>(
     ensures bytes { Refills (S.left source.old) (S.left source.new) (S.faults source.old) (S.faults source.new) window.old window.new total.old total.new result }
     ensures room { length window.new ≤ 73728 }
     ensures missing { result ≢ More.Bytes → length window.new < wanted }
+    ensures calm { result ≢ More.Failed → S.faults source.new ≡ S.faults source.old }
 {
     while window.len() < wanted {
         match read_more(window, source, total) {
@@ -184,6 +187,8 @@ impl Desk {
         ensures smaller { IfNone result
             (2 * (MOST_BYTES - self.new.total) + length self.new.window < 2 * (MOST_BYTES - self.old.total) + length self.old.window) }
         ensures clock { mode ≡ ClockMode.Leave → clock.new ≡ clock.old }
+        ensures calm { result ≢ Some SessionEnd.ReadFault → S.faults source.new ≡ S.faults source.old }
+        ensures calm_sink { result ≢ Some SessionEnd.WriteFault → K.faults sink.new ≡ K.faults sink.old }
         ensures turn { (start : _)
             → Progress H.asks H.after_gives mode start
             (state_of handler.old (S.left source.old) (S.faults source.old) (K.taken sink.old) (K.faults sink.old) (C.moments clock.old))

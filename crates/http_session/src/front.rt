@@ -1,5 +1,6 @@
 //! What stands at the front of some bytes.
 ghost use Rattle.std.specs.Prelude.{◌≡◌, ◌≤◌, ◌<◌, ◌==◌, length, take, drop, slice_range, count_by};
+ghost use Rattle.httparse.specs.Ascii.{line_feed};
 ghost use Rattle.http_session.specs.Stream.{IsFront, IsFrontOfBlock, without_block};
 ghost use Rattle.http_session.specs.Front.{front_of, IsNextIn, OnUnfinished, Awaits, AwaitsBody};
 
@@ -67,7 +68,7 @@ fn no_block(held: &[u8]) -> Next
 }
 
 fn count_lines(head: &[u8]) -> usize
-    ensures { result ≡ count_by (λ b. b == 10) head.now }
+    ensures { result ≡ count_by (λ b. b == line_feed) head.now }
 {
     head.iter().filter(|b| **b == b'\n').count()
 }

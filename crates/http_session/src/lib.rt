@@ -16,12 +16,10 @@ mod room;
 mod sending;
 mod serve;
 mod stream;
-#[cfg(test)]
-mod tests;
 mod window;
 
 pub use handler::Handler;
 pub use message::{Allow, Asked, Reply, Request};
 pub use report::{ClockMode, HeadFault, SessionEnd, SessionReport};
 pub use serve::session;
-pub use stream::{Stream, StreamEnd, law_bad_stays, law_closed_stays, law_one_stream, stream_of};
+pub use stream::{Stream, StreamEnd, stream_of};

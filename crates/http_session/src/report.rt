@@ -41,7 +41,7 @@ pub enum SessionEnd {
     WriteFault,
     /// 4,294,967,295 bytes were taken, and a further read would be needed.
     TooLong,
-    /// Memory was short.
+    /// Out of memory.
     Memory,
 }
 

@@ -1,5 +1,5 @@
 //! A whole session.
-ghost use Rattle.std.specs.Prelude.{◌≡◌, IfOk, [], true};
+ghost use Rattle.std.specs.Prelude.{◌≡◌, ◌≢◌, IfOk, [], true};
 ghost use Rattle.http_session.specs.Session.{Finishes, state_of};
 ghost use Rattle.http_session.specs.Pieces.{HandsOver, FinishesInPieces, with_sink};
 
@@ -13,7 +13,8 @@ use std::alloc::Global;
 ///
 /// The handler gets the requests of the stream in order and no others, however the reads cut it, in mode `Ask` each with the
 /// clock's next moment. What it answers is written to the sink, its head and after that its body, each call of `write` being
-/// given the whole rest, and then it does its own work. At most 73,728 bytes of input are held.
+/// given the whole rest, and then it does its own work. At most 73,728 bytes of input are held. A read that fails ends the session
+/// with `ReadFault`, and a write that fails with `WriteFault`; neither is tried again.
 pub fn session<H: Handler, S: Source, K: Sink, C: Clock>(
     alloc: Global,
     handler: &mut H,
@@ -32,6 +33,8 @@ pub fn session<H: Handler, S: Source, K: Sink, C: Clock>(
         (state_of handler.new (S.left source.new) (S.faults source.new) (K.taken sink.new) (K.faults sink.new) (C.moments clock.new)) sink.new
         result.answered result.end }
     ensures clock { mode ≡ ClockMode.Leave → clock.new ≡ clock.old }
+    ensures calm { result.end ≢ SessionEnd.ReadFault → S.faults source.new ≡ S.faults source.old }
+    ensures calm_sink { result.end ≢ SessionEnd.WriteFault → K.faults sink.new ≡ K.faults sink.old }
 {
     let Ok(mut desk) = Desk::new(alloc) else {
         return SessionReport {

@@ -1,6 +1,5 @@
 //! The stream of a whole list of bytes, read at once: plain and slow, beside the session.
-ghost use Rattle.std.specs.Prelude.{◌≡◌, ◌++◌, List, ℕ, IfOk, IfErr};
-ghost use Rattle.http_session.specs.declared.message.Asked.{Asked};
+ghost use Rattle.std.specs.Prelude.{◌≡◌, List, ℕ, IfOk, IfErr};
 ghost use Rattle.http_session.specs.Front.{front_of};
 ghost use Rattle.http_session.specs.Stream.{IsFront, EndsAs, IsStream};
 
@@ -70,21 +69,3 @@ pub fn stream_of(alloc: Global, bytes: &[u8]) -> Result<Stream, AllocError>
         rest = &rest[found.end..];
     }
 }
-
-/// One list of bytes has one stream.
-pub fn law_one_stream()
-    ensures { (bytes : List ℕ) (first second : List Asked) (end other : StreamEnd)
-        → IsStream bytes first end → IsStream bytes second other → (first ≡ second) × (end ≡ other) }
-{}
-
-/// What follows a head that is refused changes nothing.
-pub fn law_bad_stays()
-    ensures { (bytes more : List ℕ) (asked : List Asked) (fault : HeadFault)
-        → IsStream bytes asked (StreamEnd.Bad fault) → IsStream (bytes ++ more) asked (StreamEnd.Bad fault) }
-{}
-
-/// What follows a request that asks for close changes nothing.
-pub fn law_closed_stays()
-    ensures { (bytes more : List ℕ) (asked : List Asked)
-        → IsStream bytes asked StreamEnd.Closed → IsStream (bytes ++ more) asked StreamEnd.Closed }
-{}

@@ -1,5 +1,5 @@
 //! The bytes that were read and not used yet.
-ghost use Rattle.std.specs.Prelude.{◌≡◌, ◌+◌, ◌-◌, ◌≤◌, ◌<◌, length, take, drop, [], slice_range, IfOk};
+ghost use Rattle.std.specs.Prelude.{◌≡◌, ◌≢◌, ◌+◌, ◌-◌, ◌≤◌, ◌<◌, length, take, drop, [], slice_range, IfOk};
 ghost use Rattle.serve_io.specs.Causes.{HasCause};
 ghost use Rattle.serve_io.specs.Source.{ReadTakes};
 ghost use Rattle.http_session.specs.Window.{Fills, got};
@@ -75,6 +75,7 @@ impl Window {
         ensures bytes { Fills most (S.left source.old) (S.left source.new) self.old self.new result }
         ensures room { length self.new ≤ 73728 }
         ensures cause { HasCause (S.faults source.old) (S.faults source.new) (result ≡ ReadAnswer.Failed) }
+        ensures calm { result ≢ ReadAnswer.Failed → S.faults source.new ≡ S.faults source.old }
     {
         compact(&mut self.bytes, self.start, self.end);
         self.end -= self.start;
@@ -107,6 +108,7 @@ fn read_into<S: Source>(bytes: &mut [u8], at: usize, limit: usize, source: &mut 
     ensures bytes { Fills (limit - at) (S.left source.old) (S.left source.new)
         (take at bytes.old) (take (at + got result) bytes.new) result }
     ensures cause { HasCause (S.faults source.old) (S.faults source.new) (result ≡ ReadAnswer.Failed) }
+    ensures calm { result ≢ ReadAnswer.Failed → S.faults source.new ≡ S.faults source.old }
 {
     read_part(bytes, at, limit, source)
 }
@@ -117,6 +119,7 @@ fn read_part<S: Source>(bytes: &mut [u8], at: usize, limit: usize, source: &mut 
     ensures bytes { ReadTakes (S.left source.old) (S.left source.new) (slice_range bytes.new at limit) result }
     ensures before { take at bytes.new ≡ take at bytes.old }
     ensures cause { HasCause (S.faults source.old) (S.faults source.new) (result ≡ ReadAnswer.Failed) }
+    ensures calm { result ≢ ReadAnswer.Failed → S.faults source.new ≡ S.faults source.old }
 {
     source.read(&mut bytes[at..limit])
 }

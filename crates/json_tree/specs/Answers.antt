@@ -11,7 +11,7 @@ abbrev pub IsReading : List ℕ → Data → Type 0
 IsReading bytes d = IsUtf8 bytes × (read bytes ≡ Some d)
 
 -- Why the bytes are refused: they have no reading; or they have one with a number that is no whole number of 64 bits; or they have one
--- with whole numbers alone that is more than 32 deep. Want of memory is free.
+-- with whole numbers alone that is more than 32 deep. Out of memory is free.
 abbrev pub IsRefusedFor : List ℕ → JsonError → Type 0
 IsRefusedFor bytes Malformed = (d : Data) → ¬ IsReading bytes d
 IsRefusedFor bytes FloatNumber = (d : Data) × IsReading bytes d × IsTrue (has_float d)

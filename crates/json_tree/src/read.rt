@@ -27,7 +27,7 @@ pub enum JsonError {
     /// There is a reading with whole numbers alone, and it is more than 32 deep.
     #[error("arrays and objects nest too deep")]
     TooDeep,
-    /// Memory is wanting.
+    /// Out of memory.
     #[error("out of memory")]
     Memory,
 }

@@ -5,9 +5,9 @@ use std::alloc::{AllocError, Global};
 use std::marker::Model;
 
 /// A list. Contracts see it as the list of its items and nothing else: the memory that it keeps for further items
-/// isn't seen. A push that can't be refused is that of a [`crate::Roomy`].
+/// isn't seen.
 ///
-/// Places count from 0. Where memory is wanting, a list is as before, and the item that it was given is dropped.
+/// Places count from 0. Out of memory, a list is as before, and the item that it was given is dropped.
 #[derive(Clone, Debug, Drop)]
 pub struct Seq<T> {
     items: Vec<T>,

@@ -1,5 +1,10 @@
 -- What a clock gives, where it tells the moments that it holds.
 use Rattle.std.specs.Prelude.{◌≡◌, ℕ, ◌≤◌, All, List, [], ◌∷◌, Option, Some, None, ⊤}
+use Rattle.serve_io.specs.declared.clock.TheConstants.{LAST_MOMENT}
+
+-- the last moment, in seconds from 1970
+abbrev pub last_moment : ℕ
+last_moment = LAST_MOMENT
 
 -- the first moment, or 0 without any
 abbrev pub first_moment : List ℕ → ℕ
@@ -19,4 +24,4 @@ Ticks (Some moments) new now = (now ≡ first_moment moments) × (new ≡ Some (
 
 -- each is a moment: a number of seconds from 1970 on, before the year 10000
 abbrev pub AreMoments : List ℕ → Type 0
-AreMoments moments = All (λ moment. moment ≤ 253402300799) moments
+AreMoments moments = All (λ moment. moment ≤ last_moment) moments

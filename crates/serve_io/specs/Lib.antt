@@ -6,3 +6,5 @@ pub mod MemRoom
 pub mod Whole
 pub mod Clock
 pub mod Gate
+pub mod MemSource
+pub mod MemGate

@@ -13,8 +13,6 @@ mod sink;
 mod source;
 mod std_ends;
 mod sure;
-#[cfg(test)]
-mod tests;
 mod whole;
 
 pub use clock::{Clock, LAST_MOMENT, MemClock};

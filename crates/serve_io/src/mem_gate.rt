@@ -1,6 +1,7 @@
 //! A gate in memory.
-ghost use Rattle.std.specs.Prelude.{◌≡◌, ℕ, List, [], Option, Some, false, IfOk, map};
+ghost use Rattle.std.specs.Prelude.{◌≡◌, ℕ, ◌-◌, List, [], Option, Some, false, IfOk, map};
 ghost use Rattle.serve_io.specs.Gate.{Ends, ends_of};
+ghost use Rattle.serve_io.specs.MemGate.{MemListens, MemGives, GivesOne};
 
 use crate::calls::Calls;
 use crate::connections::Connections;
@@ -12,7 +13,8 @@ use crate::source::Source;
 use json_tree::Text;
 use std::alloc::{AllocError, Global};
 
-/// Connections in memory. Its calls of `listen` and `next` are numbered together from 1, and those whose numbers are listed fail.
+/// Connections in memory. Its calls of `listen` and `next` are numbered together from 1, and exactly those whose numbers are listed fail.
+/// As many connections are out as it gave, less those that were handed back.
 #[derive(Debug, Drop)]
 pub struct MemGate {
     connections: Connections<MemSource, MemSink>,
@@ -66,6 +68,13 @@ impl Gate for MemGate {
     ghost out = { λ g. g.connections.out };
 
     ghost faults = { λ g. g.calls.faults };
+
+    ghost listened = { λ old answer new. MemListens old.calls answer new.calls };
+
+    ghost gave = { λ old answer new.
+        MemGives old.calls answer new.calls × GivesOne old.connections.out answer new.connections.out };
+
+    ghost took = { λ old new. (new.calls ≡ old.calls) × (new.connections.out ≡ old.connections.out - 1) };
 
     fn listen(&mut self, address: &Text) -> Listened {
         if self.calls.next_fails() {

@@ -1,10 +1,12 @@
 //! A source in memory.
-ghost use Rattle.std.specs.Prelude.{◌≡◌, ℕ, ◌≤◌, List, length, Some, drop};
+ghost use Rattle.std.specs.Prelude.{◌≡◌, ℕ, ◌≤◌, ◌-◌, List, length, Some, drop};
+ghost use Rattle.serve_io.specs.MemSource.{MemReads};
 
 use crate::calls::Calls;
 use crate::source::{ReadAnswer, Source};
 
-/// Bytes in memory. Its calls are numbered from 1, and those whose numbers are listed fail.
+/// Bytes in memory. Its calls are numbered from 1, and exactly those whose numbers are listed fail. Each other call gives as many
+/// bytes as are left, as one call gives and as its room takes.
 #[derive(Debug, Drop)]
 pub struct MemSource {
     bytes: Vec<u8>,
@@ -37,6 +39,9 @@ impl Source for MemSource {
     ghost left = { λ s. Some (drop s.at s.bytes.items) };
 
     ghost faults = { λ s. s.calls.faults };
+
+    ghost reads = { λ old room answer new.
+        MemReads old.calls (length old.bytes.items - old.at) old.most room answer new.calls new.most };
 
     fn read(&mut self, room: &mut [u8]) -> ReadAnswer {
         if self.calls.next_fails() {

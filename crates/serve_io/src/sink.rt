@@ -1,5 +1,5 @@
 //! Where bytes go.
-ghost use Rattle.std.specs.Prelude.{◌≡◌, ℕ, ◌<◌, List, length, Option};
+ghost use Rattle.std.specs.Prelude.{◌≡◌, ◌≢◌, ℕ, ◌<◌, List, length, Option};
 ghost use Rattle.serve_io.specs.Sink.{WriteAdds};
 ghost use Rattle.serve_io.specs.Causes.{HasCause};
 ghost use Rattle.serve_io.specs.declared.sink.WriteAnswer.{WriteAnswer};
@@ -13,8 +13,8 @@ pub enum WriteAnswer {
     Failed,
 }
 
-/// A sink means the bytes that it took, where it tells them, a count of faults that never falls, and `writes`: what a write of
-/// a piece with its answer may do to the sink's value.
+/// A sink means the bytes that it took, where it tells them, a count of faults that rises exactly where a write fails, and
+/// `writes`: what a write of a piece with its answer may do to the sink's value.
 pub trait Sink {
     ghost taken: { Self → Option (List ℕ) };
 
@@ -27,5 +27,6 @@ pub trait Sink {
         requires { 0 < length piece.now }
         ensures bytes { WriteAdds (taken self.old) (taken self.new) piece.now result }
         ensures cause { HasCause (faults self.old) (faults self.new) (result ≡ WriteAnswer.Failed) }
+        ensures calm { result ≢ WriteAnswer.Failed → faults self.new ≡ faults self.old }
         ensures writes { writes self.old piece.now result self.new };
 }

@@ -1,5 +1,6 @@
-//! Readers and writers of std as sources and sinks. What these give and take is known to no contract, so they tell no bytes.
-ghost use Rattle.std.specs.Prelude.{None};
+//! Readers and writers of std as sources and sinks. They tell the bytes that std tells of what is inside: of a pipe or a file none,
+//! of a slice or a list all.
+ghost use Rattle.std.specs.Prelude.{◌≡◌};
 ghost use Rattle.serve_io.specs.Sink.{WritesThrough};
 
 use crate::sink::{Sink, WriteAnswer};
@@ -14,14 +15,16 @@ pub struct ReadSource<R> {
 }
 
 impl<R> ReadSource<R> {
-    /// A source over a reader.
-    pub fn new(inner: R) -> ReadSource<R> {
+    /// A source over a reader, with no fault yet.
+    pub fn new(inner: R) -> ReadSource<R>
+        ensures { result ≡ record { inner = inner; faults = 0 } }
+    {
         ReadSource { inner, faults: 0 }
     }
 }
 
 impl<R: Read> Source for ReadSource<R> {
-    ghost left = { λ _. None };
+    ghost left = { λ s. R.remaining s.inner };
 
     ghost faults = { λ s. s.faults };
 
@@ -45,14 +48,16 @@ pub struct WriteSink<W> {
 }
 
 impl<W> WriteSink<W> {
-    /// A sink over a writer.
-    pub fn new(inner: W) -> WriteSink<W> {
+    /// A sink over a writer, with no fault yet.
+    pub fn new(inner: W) -> WriteSink<W>
+        ensures { result ≡ record { inner = inner; faults = 0 } }
+    {
         WriteSink { inner, faults: 0 }
     }
 }
 
 impl<W: Write> Sink for WriteSink<W> {
-    ghost taken = { λ _. None };
+    ghost taken = { λ s. W.contents s.inner };
 
     ghost faults = { λ s. s.faults };
 

@@ -1,6 +1,7 @@
 //! Ends that never fail: their counts of faults are 0.
-ghost use Rattle.std.specs.Prelude.{◌≡◌, ℕ, ◌≤◌, List, [], length, Some, None, drop, false, IfOk, map};
+ghost use Rattle.std.specs.Prelude.{◌≡◌, ℕ, ◌≤◌, ◌-◌, List, [], length, Some, None, drop, false, IfOk, map};
 ghost use Rattle.serve_io.specs.Gate.{ends_of};
+ghost use Rattle.serve_io.specs.MemGate.{GivesOne};
 ghost use Rattle.serve_io.specs.declared.sink.WriteAnswer.TheVariants.{Took};
 
 use crate::connections::Connections;
@@ -109,6 +110,10 @@ impl Gate for SureGate {
     ghost out = { λ g. g.connections.out };
 
     ghost faults = { λ _. 0 };
+
+    ghost gave = { λ old answer new. GivesOne old.connections.out answer new.connections.out };
+
+    ghost took = { λ old new. new.connections.out ≡ old.connections.out - 1 };
 
     fn listen(&mut self, address: &Text) -> Listened {
         self.connections.listen(address);

@@ -4,10 +4,7 @@ use Rattle.jiff.specs.Words.{epoch_day, date_text}
 use Rattle.jiff_core.specs.declared.civil.date.Date.{Date}
 use Rattle.jiff_core.specs.Calendar.{day_count}
 use Rattle.jiff_fmt.specs.Text.{pad2, pad4}
-
--- 9999-12-31T23:59:59Z
-abbrev pub last_moment : ℕ
-last_moment = 253402300799
+pub use Rattle.serve_io.specs.Clock.{last_moment}
 
 -- a time of day, as `T` and `10:00:00Z`, of seconds below 86,400
 abbrev pub clock_text : ℕ → List ℕ

@@ -3,7 +3,7 @@ ghost use Rattle.std.specs.Prelude.{◌≡◌, ◌<◌, ◌^◌, ℕ, Some, IfSo
 ghost use Rattle.serve_names.specs.Durations as spec;
 
 use crate::counts::{MOST_DIGITS, is_digit, read_count};
-use crate::moments::LAST_MOMENT;
+use serve_io::LAST_MOMENT;
 
 const SECONDS_OF_HOUR: u64 = 3_600;
 

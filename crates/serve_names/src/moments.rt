@@ -10,9 +10,6 @@ use json_tree::Text;
 use std::alloc::{AllocError, Global};
 use std::fmt::Write;
 
-/// The last moment that has a text, 9999-12-31T23:59:59Z, in whole seconds since 1970 in UTC.
-pub const LAST_MOMENT: u64 = 253_402_300_799;
-
 const SECONDS_OF_DAY: u64 = 86_400;
 
 /// The length of a moment's text.

@@ -9,6 +9,8 @@ abbrev pub invariant-loop-end : goal.invariant-loop-end
 invariant-loop-end g l = record {
   most : l.desk.total ≤ 4294967295;
   few : l.desk.answered + length l.desk.window ≤ l.desk.total;
+  calm : g.S.Source.faults l.source ≡ g.S.Source.faults l.initial.source;
+  calm_sink : g.K.Sink.faults l.sink ≡ g.K.Sink.faults l.initial.sink;
   clock : l.mode ≡ Leave → l.clock ≡ l.initial.clock;
   progress :
       Progress g.H.Handler.asks g.H.Handler.after_gives l.mode

@@ -1,4 +1,4 @@
-use Rattle.std.proofs.Common.{arith, length-drop, false}
+use Rattle.std.proofs.Common.{◌∙◌, arith, length-drop, false}
 use Rattle.serve_io.proofs.EndLemmas.{appends-more, WritesRest-took, WritesRest-failed}
 use Rattle.serve_io.proofs.whole.write_whole.Goals as goal
 
@@ -6,6 +6,7 @@ pub loop-at-preserved : goal.loop-at-preserved
 loop-at-preserved g c = record {
   within = omega (arith, c.in-Took.ensures.bytes.1, length-drop c.loop-at.at c.args.bytes.now);
   later = omega (arith, c.loop-at.invariant.later, c.write.ensures.cause.later);
+  calm = c.in-Took.ensures.calm (λ e. cc) ∙ c.loop-at.invariant.calm;
   rest = λ sent new w.
       c.loop-at.invariant.rest sent new
       (WritesRest-took g.K.Sink.writes _ _ c.args.bytes.now c.loop-at.at c.in-Took.count c.in-Took.ensures.bytes.0 c.in-Took.ensures.bytes.1 c.in-Took.ensures.writes sent new w);

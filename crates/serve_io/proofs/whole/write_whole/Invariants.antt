@@ -1,4 +1,4 @@
-use Rattle.std.proofs.Common.{◌≤◌, ◌-◌, length, take, drop}
+use Rattle.std.proofs.Common.{◌≡◌, ◌≤◌, ◌-◌, length, take, drop}
 use Rattle.std.specs.Io.KnownBytes.{Appends}
 use Rattle.std.specs.Prelude.{Bool}
 use Rattle.serve_io.specs.Whole.{WritesRest}
@@ -8,6 +8,7 @@ abbrev pub invariant-loop-at : goal.invariant-loop-at
 invariant-loop-at g l = record {
   within : l.at ≤ length l.bytes;
   later : g.K.Sink.faults l.initial.sink ≤ g.K.Sink.faults l.sink;
+  calm : g.K.Sink.faults l.sink ≡ g.K.Sink.faults l.initial.sink;
   rest :
       (sent : Bool) (new : _) → WritesRest g.K.Sink.writes l.sink (drop l.at l.bytes) sent new
       → WritesRest g.K.Sink.writes l.initial.sink l.bytes sent new;

@@ -1,8 +1,9 @@
-use crate::{
+//! Which bytes are a label, domain, count, duration, moment or uid, and the texts that are written.
+use json_tree::Text;
+use serve_names::{
     generated_name, is_domain, is_label, moment_text, read_count, read_duration, read_moment,
     read_uid, uid_text,
 };
-use json_tree::Text;
 use std::test::Fail;
 
 const LONGEST: &str = "abcdefghijklmnopqrstuvwxyz-0123456789-abcdefghijklmnopqrstuvwxy";
