@@ -1,4 +1,4 @@
--- Values that compare as equal are equal: names, keys, and objects but for their stamps.
+-- Values that compare as equal are equal: names, keys, keys of slots, and objects but for their stamps.
 use Rattle.std.proofs.Common.{◌≡◌, List, ℕ, Bool, true, false, Equal, refl, ap, ◌∙◌}
 use Rattle.std.specs.Prelude.{◌&&◌, bytes_eq}
 use Rattle.std.specs.Ordering.{is_eq}
@@ -7,6 +7,8 @@ use Rattle.json_tree.specs.EqualLaws.{is_equal-exact}
 use Rattle.resource_types.specs.declared.names.Kind.{Kind}
 use Rattle.resource_types.specs.declared.names.Name.{Name}
 use Rattle.resource_types.specs.declared.names.Key.{Key}
+use Rattle.resource_types.specs.declared.names.Controller.{Controller}
+use Rattle.resource_types.specs.declared.names.SlotKey.{SlotKey}
 use Rattle.resource_types.specs.declared.objects.Object.{Object}
 use Rattle.resource_types.specs.contracts.names.Kind as kind_row
 use Rattle.resource_types.specs.contracts.names.NameOrd.TheImpl as name_order
@@ -14,6 +16,11 @@ use Rattle.resource_types.specs.contracts.names.NameOrd.TheImpl.Laws as name_law
 use Rattle.resource_types.specs.contracts.names.KeyOrd.TheImpl as key_order
 use Rattle.resource_types.specs.contracts.names.KeyOrd.TheImpl.Laws as key_laws
 use Rattle.resource_types.specs.contracts.names.KeyPartialEq.TheImpl as key_eq
+use Rattle.resource_types.specs.contracts.names.Controller as controller_row
+use Rattle.resource_types.specs.contracts.names.ControllerPartialEq.TheImpl as controller_eq
+use Rattle.resource_types.specs.contracts.names.SlotKeyPartialEq.TheImpl as slot_eq
+use Rattle.resource_types.specs.contracts.names.SlotKeyOrd.TheImpl as slot_order
+use Rattle.resource_types.specs.contracts.names.SlotKeyOrd.TheImpl.Laws as slot_laws
 use Rattle.resource_types.specs.contracts.objects.Body as body
 use Rattle.resource_types.specs.contracts.objects.Object as object
 use Rattle.resource_types.specs.Objects.{same_kind}
@@ -59,6 +66,19 @@ key-exact a b e =
     let kind = kind-exact a.kind b.kind (left (same_kind a.kind b.kind) names equal) in
     let name = name-same a.name b.name (right (same_kind a.kind b.kind) names equal) in
     ap (λ x. record { kind = x; name = a.name }) kind ∙ ap (λ x. record { kind = b.kind; name = x }) name
+
+-- controllers that are the same are equal
+pub controller-exact : (a b : Controller) → controller_eq.ghosts.eq a b ≡ true → a ≡ b
+controller-exact a b e = same_true controller_row.the_type tt a b e
+
+-- keys of slots that compare as equal are equal
+pub slot-exact : (a b : SlotKey) → slot_order.ghosts.cmp a b ≡ Equal → a ≡ b
+slot-exact a b e =
+    let equal : slot_eq.ghosts.eq a b ≡ true = slot_laws.matches_eq-law a b ∙ ap is_eq e in
+    let names = (bytes_eq a.name.space b.name.space && bytes_eq a.name.name b.name.name) in
+    let controller = controller-exact a.controller b.controller (left (controller_eq.ghosts.eq a.controller b.controller) names equal) in
+    let name = name-same a.name b.name (right (controller_eq.ghosts.eq a.controller b.controller) names equal) in
+    ap (λ x. record { controller = x; name = a.name }) controller ∙ ap (λ x. record { controller = b.controller; name = x }) name
 
 -- of objects that are the same, the one with the other's stamp is the other
 pub same-exact : (a b : Object) → same_but_stamp a b ≡ true → stamped a b.meta.stamp ≡ b

@@ -2,3 +2,4 @@ pub mod Lists
 pub mod Exact
 pub mod Latest
 pub mod Ordered
+pub mod Spaces

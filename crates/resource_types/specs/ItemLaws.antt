@@ -4,7 +4,7 @@ use Rattle.std.specs.Cmp.{IsEquivalence}
 use Rattle.std.proofs.Common.{ap}
 use Rattle.std.specs.Ordering.{ordering_then}
 use Rattle.version_store.specs.Laws.{ChangesStampAlone, IsSameButStamp, KeepsKindsTogether}
-use Rattle.json_tree.specs.EqualLaws.{is_equal-own, is_equal-equivalence}
+use Rattle.json_tree.specs.EqualLaws.{is_equal-own, is_equal-exact, is_equal-equivalence}
 use Rattle.resource_types.specs.declared.names.Key.{Key}
 use Rattle.resource_types.specs.declared.objects.Object.{Object}
 use Rattle.resource_types.specs.contracts.names.KindOrd.TheImpl as kind_order
@@ -27,10 +27,11 @@ stamp_alone_of = record {
 pub spec_equivalence_of : IsEquivalence same_spec
 spec_equivalence_of = is_equal-equivalence body.the_row.coded (λ (o : Object). spec_of o.body)
 
-pub same_but_stamp_of : IsSameButStamp {O = Object} stamped same_but_stamp
+pub same_but_stamp_of : IsSameButStamp {O = Object} (λ o. o.key) stamped same_but_stamp
 same_but_stamp_of = record {
   alike = is_equal-equivalence object.the_row.coded (λ (o : Object). stamped o no_stamp);
   stamps = λ a b s t. refl;
+  exact = λ a b s k e. ap (λ o. stamped o s) (is_equal-exact object.the_row.coded (stamped a no_stamp) (stamped b no_stamp) e);
 }
 
 pub kinds_together_of : KeepsKindsTogether key_order.ghosts.cmp (λ (k : Key). k.kind) kind_order.ghosts.cmp

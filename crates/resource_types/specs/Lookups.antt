@@ -1,33 +1,21 @@
 -- The questions on the objects that stand.
 use Rattle.std.specs.Prelude.{◌≡◌, ◌<◌, ◌&&◌, ◌||◌, ◌⊎◌, ◌==◌, ℕ, Bool, true, false, not, cond, List, [], ◌∷◌, Option, Some, None, nat_lt, bytes_eq, slice_get}
-use Rattle.std.specs.List.{list_any}
+use Rattle.std.specs.List.{filter, list_any}
 use Rattle.std.specs.declared.cmp.Ordering.TheVariants.{Less}
 use Rattle.version_store.specs.State as store
-use Rattle.version_store.specs.declared.write.Entry.{Entry}
 use Rattle.resource_types.specs.declared.names.Kind.{Kind}
 use Rattle.resource_types.specs.declared.names.Kind.TheVariants as kind
-use Rattle.resource_types.specs.declared.names.Actor.{Actor}
 use Rattle.resource_types.specs.declared.names.Name.{Name}
 use Rattle.resource_types.specs.declared.names.Key.{Key}
 use Rattle.resource_types.specs.declared.metadata.Owner.{Owner}
+use Rattle.resource_types.specs.declared.specification.Target.{Target}
 use Rattle.resource_types.specs.declared.objects.Object.{Object}
 use Rattle.resource_types.specs.contracts.names.NameOrd.TheImpl as name_order
 use Rattle.resource_types.specs.contracts.names.KeyOrd.TheImpl as key_order
+pub use Rattle.resource_types.specs.Journal.{Journal, State, state, state_at}
 use Rattle.resource_types.specs.Objects.{same_kind, is_of, pins_of, generation_of, targets_of, has_been_ready}
 
 -- ---- what stands
-
--- all that was written, in order
-abbrev pub Log : Type 0
-Log = List (Entry Object Kind Key Name Actor)
-
--- the objects that stand, in order of key
-abbrev pub State : Type 0
-State = List Object
-
--- the objects that stand after these entries
-abbrev pub state : Log → State
-state entries = store.state (λ o. o.key) key_order.ghosts.cmp entries
 
 -- the object of the key
 abbrev pub find : Key → State → Option Object
@@ -36,6 +24,14 @@ find key st = store.find (λ o. o.key) key_order.ghosts.cmp key st
 -- the objects whose key is of the kind, in order of name
 abbrev pub of_kind : Kind → State → State
 of_kind kind st = store.of_kind (λ o. o.key) (λ k. k.kind) same_kind kind st
+
+-- the objects in a namespace
+abbrev pub in_space : List ℕ → State → State
+in_space space objects = filter (λ o. bytes_eq o.key.name.space space) objects
+
+-- the objects behind a key, in order of key
+abbrev pub behind : Key → State → State
+behind key st = store.behind (λ o. o.key) key_order.ghosts.cmp key st
 
 -- a key of its parts
 abbrev pub key_of : Kind → List ℕ → List ℕ → Key
@@ -86,6 +82,12 @@ current st c name =
     given (find (key_of kind.Revision c.key.name.space name) st)
     (λ r. when (is_owned_by c r && (generation_of r.body == c.meta.stamp.generation)) (version_of r))
 
+-- the owned Revision of the name that has the Configuration's generation, as an object
+abbrev pub current_revision : State → Object → List ℕ → Option Object
+current_revision st c name =
+    given (find (key_of kind.Revision c.key.name.space name) st)
+    (λ r. when (is_owned_by c r && (generation_of r.body == c.meta.stamp.generation)) r)
+
 -- whether the object is of a greater generation than the best so far
 abbrev pub is_newer : Option Object → Object → Bool
 is_newer None r = true
@@ -131,9 +133,13 @@ IsLatest counts st (Some r) = IsNewest counts st r
 
 -- ---- Revisions that are free, and in use
 
+-- whether the target names the Revision of the simple name: a target on a Configuration names none
+abbrev pub is_target_on : List ℕ → Target → Bool
+is_target_on name t = not (is_empty t.revision) && bytes_eq t.revision name
+
 -- whether the object is of the kind, in the Revision's namespace, and a target of it names the Revision
 abbrev pub is_naming : Kind → Name → Object → Bool
-is_naming kind name o = (is_of kind o && bytes_eq o.key.name.space name.space) && list_any (λ t. bytes_eq t.revision name.name) (targets_of o.body)
+is_naming kind name o = (is_of kind o && bytes_eq o.key.name.space name.space) && list_any (is_target_on name.name) (targets_of o.body)
 
 -- whether a target of a Service or Route that stands names the Revision
 abbrev pub is_target : State → Name → Bool

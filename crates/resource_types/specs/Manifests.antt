@@ -11,6 +11,7 @@ use Rattle.resource_types.specs.declared.objects.Object.{Object}
 use Rattle.resource_types.specs.declared.manifests.Manifest.{Manifest}
 use Rattle.resource_types.specs.declared.manifests.ManifestSpec.{ManifestSpec}
 use Rattle.resource_types.specs.declared.manifests.ManifestSpec.TheVariants as manifest
+use Rattle.resource_types.specs.Spec.{no_stamp, stamped}
 
 -- the API's group and version
 abbrev pub api_version : List ℕ
@@ -65,3 +66,7 @@ manifest_of object = record {
   annotations = object.meta.annotations;
   spec = manifest_spec object.body;
 }
+
+-- what a client asks for by the object, whatever its version
+abbrev pub asked_of : Object → Manifest
+asked_of o = manifest_of (stamped o no_stamp)

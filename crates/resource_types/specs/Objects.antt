@@ -1,13 +1,15 @@
 -- What an object is, by its kind.
-use Rattle.std.specs.Prelude.{◌≡◌, ◌&&◌, ◌||◌, ℕ, Bool, List, []}
+use Rattle.std.specs.Prelude.{◌≡◌, ◌&&◌, ◌||◌, ℕ, Bool, List, [], Option, Some, None}
 use Rattle.std.specs.List.{list_any}
 use Rattle.resource_types.specs.declared.names.Kind.{Kind}
 use Rattle.resource_types.specs.declared.names.Kind.TheVariants as kind
+use Rattle.resource_types.specs.declared.metadata.Owner.{Owner}
 use Rattle.resource_types.specs.declared.conditions.CondName.{CondName}
 use Rattle.resource_types.specs.declared.conditions.CondName.TheVariants as condition
 use Rattle.resource_types.specs.declared.conditions.Truth.{Truth}
 use Rattle.resource_types.specs.declared.conditions.Truth.TheVariants as truth
 use Rattle.resource_types.specs.declared.specification.Target.{Target}
+use Rattle.resource_types.specs.declared.specification.Template.{Template}
 use Rattle.resource_types.specs.declared.status.ObjectStatus.{ObjectStatus}
 use Rattle.resource_types.specs.declared.objects.Body.{Body}
 use Rattle.resource_types.specs.declared.objects.Body.TheVariants.{Service, Configuration, Revision, Route, Health, Table}
@@ -80,6 +82,38 @@ status_of (Revision spec generation pins active status) = status
 status_of (Route traffic status) = status
 status_of (Health uid resources container ever) = no_status
 status_of (Table route rows targets) = no_status
+
+-- the owner of the object that stands; there is none where none stands
+abbrev pub owner_of : Option Object → Option Owner
+owner_of None = None
+owner_of (Some old) = old.meta.owner
+
+-- the status of the object that stands; where none stands, that of an object that no controller has looked at
+abbrev pub status_over : Option Object → ObjectStatus
+status_over None = no_status
+status_over (Some old) = status_of old.body
+
+-- the body with the status, where it has one
+abbrev pub with_status : ObjectStatus → Body → Body
+with_status new (Service template traffic status) = Service template traffic new
+with_status new (Configuration template status) = Configuration template new
+with_status new (Revision spec generation pins active status) = Revision spec generation pins active new
+with_status new (Route traffic status) = Route traffic new
+with_status new (Health uid resources container ever) = Health uid resources container ever
+with_status new (Table route rows targets) = Table route rows targets
+
+-- the template of what has none
+abbrev pub no_template : Template
+no_template = record { name = []; labels = record { entries = [] }; annotations = record { entries = [] }; spec = record { concurrency = None; timeout = None; rest = record { entries = [] } } }
+
+-- the template of a Service or a Configuration
+abbrev pub template_of : Body → Template
+template_of (Service template traffic status) = template
+template_of (Configuration template status) = template
+template_of (Revision spec generation pins active status) = no_template
+template_of (Route traffic status) = no_template
+template_of (Health uid resources container ever) = no_template
+template_of (Table route rows targets) = no_template
 
 -- whether the status has the condition with that truth
 abbrev pub has_condition : CondName → Truth → Object → Bool

@@ -6,7 +6,7 @@ ghost use Rattle.resource_types.specs.ItemLaws.{stamp_alone_of, spec_equivalence
 use crate::names::{Actor, Key, Kind, Name};
 use crate::objects::{Body, Object};
 use json_tree::Alike;
-use version_store::item::{Item, Stamp};
+use version_store::{Item, Stamp};
 
 impl Body {
     /// Whether the two have the same spec.

@@ -18,12 +18,13 @@ mod status;
 
 pub use conditions::{CondName, Condition, Part, Truth};
 pub use lookups::{
-    current, in_use, is_free, latest_created, latest_ready, object_at, owner_stands, standing,
+    current, current_revision, in_use, is_free, latest_created, latest_ready, newest_owned,
+    newest_ready, owner_stands, standing, walk_after, walk_space,
 };
 pub use manifests::{Manifest, ManifestSpec, api_version, decimal_text, manifest_of};
 pub use metadata::{Labels, Meta, Owner};
 pub use names::{Actor, ClientKind, Controller, Key, Kind, Name, SlotKey};
-pub use objects::{Body, Object};
+pub use objects::{Body, Object, with_status};
 pub use specification::{PodSpec, Row, Target, Template};
 pub use status::ObjectStatus;
 

@@ -1,9 +1,10 @@
 //! Look-ups: questions on the objects that stand. None takes memory.
-ghost use Rattle.std.specs.Prelude.{◌≡◌, ◌<◌, ◌&&◌, Some, bytes_eq, length, slice_get, option_map};
+ghost use Rattle.std.specs.Prelude.{◌≡◌, ◌&&◌, option_map};
 ghost use Rattle.std.specs.List.{list_any};
-ghost use Rattle.std.specs.Option.{option_copied};
+ghost use Rattle.std.specs.Option.{option_copied, ForSome};
 ghost use Rattle.resource_types.specs.Objects.{IsOf, has_been_ready};
-ghost use Rattle.resource_types.specs.Lookups.{state, find, of_kind, key_of, is_owner, is_owned_by, owner_stands, current, later, latest_created, latest_ready, IsLatest, is_naming, is_target, is_free, is_in_use, is_latest, is_latest_of, is_called, is_given, version_of};
+ghost use Rattle.resource_types.specs.Spaces.{space_side, space_span};
+ghost use Rattle.resource_types.specs.Lookups.{state, find, of_kind, in_space, behind, key_of, is_owner, is_owned_by, owner_stands, current, current_revision, later, latest_created, latest_ready, IsLatest, is_target_on, is_naming, is_target, is_free, is_in_use, is_latest, is_latest_of, is_called, is_given, version_of};
 
 use crate::metadata::Owner;
 use crate::names::{Key, Kind, Name};
@@ -11,15 +12,14 @@ use crate::objects::Object;
 use crate::specification::Target;
 use json_tree::Text;
 use std::cmp::Ordering;
-use version_store::item::SearchKey;
-use version_store::store::Store;
+use version_store::{SearchKey, Span, Store, Walk};
 
 // A key that is searched for by its parts.
 #[derive(Drop)]
 struct Sought<'a> {
     kind: Kind,
-    space: &'a Text,
-    name: &'a Text,
+    space: &'a str,
+    name: &'a str,
 }
 
 impl<'a> SearchKey<Object> for Sought<'a> {
@@ -27,8 +27,8 @@ impl<'a> SearchKey<Object> for Sought<'a> {
 
     fn compare(&self, key: &Key) -> Ordering {
         match key.kind.cmp(&self.kind) {
-            Ordering::Equal => match key.name.space.cmp(self.space) {
-                Ordering::Equal => key.name.name.cmp(self.name),
+            Ordering::Equal => match key.name.space.as_str().cmp(self.space) {
+                Ordering::Equal => key.name.name.as_str().cmp(self.name),
                 other => other,
             },
             other => other,
@@ -36,27 +36,56 @@ impl<'a> SearchKey<Object> for Sought<'a> {
     }
 }
 
+// The keys of a kind in a namespace.
+#[derive(Drop)]
+struct InSpace<'a> {
+    kind: Kind,
+    space: &'a str,
+}
+
+impl<'a> Span<Object> for InSpace<'a> {
+    ghost side = { λ s. space_side s.kind s.space.now };
+
+    fn side(&self, key: &Key) -> Ordering {
+        match key.kind.cmp(&self.kind) {
+            Ordering::Equal => key.name.space.as_str().cmp(self.space),
+            other => other,
+        }
+    }
+
+    ghost together = { λ s. space_span s.kind s.space.now };
+}
+
 /// The object of the kind and the name, if one stands.
 pub fn standing<'a>(
     store: &'a Store<Object>,
     kind: Kind,
-    space: &Text,
-    name: &Text,
+    space: &str,
+    name: &str,
 ) -> Option<&'a Object>
-    ensures { option_copied result ≡ find (key_of kind space.now name.now) (state store.now.entries) }
+    ensures value { option_copied result ≡ find (key_of kind space.now name.now) (state store.now.entries) }
+    ensures keyed { ForSome (option_copied result) (λ o. o.key ≡ key_of kind space.now name.now) }
 {
     store.find(&Sought { kind, space, name })
 }
 
-/// The object of a kind at a place, counted from 0 in order of name: the place lies below the count of the kind.
-pub fn object_at(store: &Store<Object>, kind: Kind, place: u64) -> &Object
-    requires { place < length (of_kind kind (state store.now.entries)) }
-    ensures { slice_get (of_kind kind (state store.now.entries)) place ≡ Some result.now }
+/// The objects of the kind that stand in the namespace, in order of name.
+pub fn walk_space<'a>(store: &'a Store<Object>, kind: Kind, space: &str) -> Walk<'a, Object>
+    ensures { result ≡ in_space space.now (of_kind kind (state store.now.entries)) }
 {
-    match store.nth(kind, place) {
-        Some(object) => object,
-        None => unreachable!(),
-    }
+    store.walk_in(&InSpace { kind, space })
+}
+
+/// The objects of the kind that stand behind a namespace and simple name, in order of name.
+pub fn walk_after<'a>(
+    store: &'a Store<Object>,
+    kind: Kind,
+    space: &str,
+    name: &str,
+) -> Walk<'a, Object>
+    ensures { result ≡ behind (key_of kind space.now name.now) (of_kind kind (state store.now.entries)) }
+{
+    store.walk_after(kind, &Sought { kind, space, name })
 }
 
 impl Object {
@@ -87,9 +116,28 @@ impl Object {
 pub fn owner_stands(store: &Store<Object>, space: &Text, owner: &Owner) -> bool
     ensures { result ≡ owner_stands (state store.now.entries) space.now owner.now }
 {
-    match standing(store, owner.kind, space, &owner.name) {
+    match standing(store, owner.kind, space.as_str(), owner.name.as_str()) {
         Some(object) => object.is_of(owner.kind) && object.meta.stamp.uid == owner.uid,
         None => false,
+    }
+}
+
+/// The Revision of that simple name that the Configuration owns and that has its generation.
+pub fn current_revision<'a>(
+    store: &'a Store<Object>,
+    configuration: &Object,
+    name: &str,
+) -> Option<&'a Object>
+    ensures { option_copied result ≡ current_revision (state store.now.entries) configuration.now name.now }
+{
+    let space = configuration.key.name.space.as_str();
+    let revision = standing(store, Kind::Revision, space, name)?;
+    if configuration.owns(revision)
+        && revision.body.generation() == configuration.meta.stamp.generation
+    {
+        Some(revision)
+    } else {
+        None
     }
 }
 
@@ -98,14 +146,12 @@ pub fn current(store: &Store<Object>, configuration: &Object, name: &Text) -> Op
     requires { IsOf Kind.Configuration configuration.now }
     ensures { result ≡ current (state store.now.entries) configuration.now name.now }
 {
-    let revision = standing(store, Kind::Revision, &configuration.key.name.space, name)?;
-    if configuration.owns(revision)
-        && revision.body.generation() == configuration.meta.stamp.generation
-    {
-        Some(revision.meta.stamp.version)
-    } else {
-        None
-    }
+    Some(
+        current_revision(store, configuration, name.as_str())?
+            .meta
+            .stamp
+            .version,
+    )
 }
 
 // The best so far, or the Revision where it counts and is newer.
@@ -127,14 +173,17 @@ fn later<'a>(counted: bool, best: Option<&'a Object>, revision: &'a Object) -> O
     }
 }
 
-// Of the Revisions that the Configuration owns, the latest.
-fn newest_owned<'a>(store: &'a Store<Object>, configuration: &Object) -> Option<&'a Object>
+/// Of the Revisions that the Configuration owns by kind, name and uid, the one of greatest generation, and of equal ones
+/// the first by name.
+pub fn newest_owned<'a>(store: &'a Store<Object>, configuration: &Object) -> Option<&'a Object>
     ensures value { option_copied result ≡ latest_created (state store.now.entries) configuration.now }
     ensures latest { IsLatest (is_owned_by configuration.now) (state store.now.entries) (latest_created (state store.now.entries) configuration.now) }
 {
+    let space = configuration.key.name.space.as_str();
+    let revisions = walk_space(store, Kind::Revision, space);
     let mut best = None;
-    for place in 0..store.count(Kind::Revision) {
-        let revision = object_at(store, Kind::Revision, place);
+    for place in 0..revisions.len() {
+        let revision = revisions.at(place);
         best = later(configuration.owns(revision), best, revision);
     }
     best
@@ -147,21 +196,25 @@ fn owns_ready(configuration: &Object, revision: &Object) -> bool
     configuration.owns(revision) && revision.has_been_ready()
 }
 
-// Of the Revisions that the Configuration owns and that were ready once, the latest.
-fn newest_ready<'a>(store: &'a Store<Object>, configuration: &Object) -> Option<&'a Object>
+/// Of the Revisions that the Configuration owns by kind, name and uid and whose status has `HasBeenReady` True, the one of
+/// greatest generation, and of equal ones the first by name.
+///
+/// A Revision that was ready and no longer is still counts: the answer does not fall back.
+pub fn newest_ready<'a>(store: &'a Store<Object>, configuration: &Object) -> Option<&'a Object>
     ensures value { option_copied result ≡ latest_ready (state store.now.entries) configuration.now }
     ensures latest { IsLatest (λ r. is_owned_by configuration.now r && has_been_ready r) (state store.now.entries) (latest_ready (state store.now.entries) configuration.now) }
 {
+    let space = configuration.key.name.space.as_str();
+    let revisions = walk_space(store, Kind::Revision, space);
     let mut best = None;
-    for place in 0..store.count(Kind::Revision) {
-        let revision = object_at(store, Kind::Revision, place);
+    for place in 0..revisions.len() {
+        let revision = revisions.at(place);
         best = later(owns_ready(configuration, revision), best, revision);
     }
     best
 }
 
-/// The version of the latest created Revision: of the Revisions that the Configuration owns by kind, name and uid, the
-/// one of greatest generation, and of equal ones the first by name.
+/// The version of the latest created Revision, which is [`newest_owned`].
 pub fn latest_created(store: &Store<Object>, configuration: &Object) -> Option<u64>
     requires { IsOf Kind.Configuration configuration.now }
     ensures value { result ≡ option_map version_of (latest_created (state store.now.entries) configuration.now) }
@@ -170,10 +223,7 @@ pub fn latest_created(store: &Store<Object>, configuration: &Object) -> Option<u
     Some(newest_owned(store, configuration)?.meta.stamp.version)
 }
 
-/// The version of the latest ready Revision: of the Revisions that the Configuration owns by kind, name and uid and
-/// whose status has `HasBeenReady` True, the one of greatest generation, and of equal ones the first by name.
-///
-/// A Revision that was ready and no longer is still counts: the answer does not fall back.
+/// The version of the latest ready Revision, which is [`newest_ready`].
 pub fn latest_ready(store: &Store<Object>, configuration: &Object) -> Option<u64>
     requires { IsOf Kind.Configuration configuration.now }
     ensures value { result ≡ option_map version_of (latest_ready (state store.now.entries) configuration.now) }
@@ -184,9 +234,9 @@ pub fn latest_ready(store: &Store<Object>, configuration: &Object) -> Option<u64
 
 // Whether one of the targets is on the Revision of the simple name.
 fn has_target(targets: &[Target], name: &Text) -> bool
-    ensures { result ≡ list_any (λ t. bytes_eq t.revision name.now) targets.now }
+    ensures { result ≡ list_any (is_target_on name.now) targets.now }
 {
-    targets.iter().any(|target| target.revision == *name)
+    targets.iter().any(|target| !target.revision.is_empty() && target.revision == *name)
 }
 
 // Whether the object is of the kind, in the Revision's namespace, and a target of it names the Revision.
@@ -202,8 +252,9 @@ fn is_naming(kind: Kind, name: &Name, object: &Object) -> bool
 fn is_target_of(store: &Store<Object>, kind: Kind, name: &Name) -> bool
     ensures { result ≡ list_any (is_naming kind name.now) (of_kind kind (state store.now.entries)) }
 {
-    for place in 0..store.count(kind) {
-        if is_naming(kind, name, object_at(store, kind, place)) {
+    let objects = walk_space(store, kind, name.space.as_str());
+    for place in 0..objects.len() {
+        if is_naming(kind, name, objects.at(place)) {
             return true;
         }
     }
@@ -222,7 +273,12 @@ fn is_target(store: &Store<Object>, name: &Name) -> bool
 pub fn is_free(store: &Store<Object>, name: &Name) -> bool
     ensures { result ≡ is_free (state store.now.entries) name.now }
 {
-    match standing(store, Kind::Revision, &name.space, &name.name) {
+    match standing(
+        store,
+        Kind::Revision,
+        name.space.as_str(),
+        name.name.as_str(),
+    ) {
         Some(revision) => {
             revision.is_of(Kind::Revision)
                 && revision.body.pins().is_empty()
@@ -253,7 +309,12 @@ fn is_latest(store: &Store<Object>, name: &Text, configuration: &Object) -> bool
 fn is_latest_of(store: &Store<Object>, name: &Name, owner: &Owner) -> bool
     ensures { result ≡ is_latest_of (state store.now.entries) name.now owner.now }
 {
-    match standing(store, Kind::Configuration, &name.space, &owner.name) {
+    match standing(
+        store,
+        Kind::Configuration,
+        name.space.as_str(),
+        owner.name.as_str(),
+    ) {
         Some(configuration) => {
             configuration.is_of(Kind::Configuration)
                 && configuration.is_owner(owner)
@@ -277,7 +338,12 @@ fn is_latest_of_its_owner(store: &Store<Object>, name: &Name, revision: &Object)
 pub fn in_use(store: &Store<Object>, name: &Name) -> bool
     ensures { result ≡ is_in_use (state store.now.entries) name.now }
 {
-    match standing(store, Kind::Revision, &name.space, &name.name) {
+    match standing(
+        store,
+        Kind::Revision,
+        name.space.as_str(),
+        name.name.as_str(),
+    ) {
         Some(revision) => {
             revision.is_of(Kind::Revision)
                 && (!is_free(store, name) || is_latest_of_its_owner(store, name, revision))

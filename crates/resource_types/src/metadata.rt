@@ -4,7 +4,7 @@ ghost use Rattle.std.specs.Prelude.{◌≡◌, ◌↔◌, IsTrue};
 use crate::names::Kind;
 use json_tree::{Alike, Copied, Table, Text};
 use std::alloc::{AllocError, Global};
-use version_store::item::Stamp;
+use version_store::Stamp;
 
 /// Texts under names: labels or annotations. The names rise strictly.
 pub type Labels = Table<Text>;

@@ -1,6 +1,7 @@
 //! Objects of the six kinds.
-ghost use Rattle.std.specs.Prelude.{◌≡◌, ◌↔◌, IsTrue};
-ghost use Rattle.resource_types.specs.Objects.{IsOf, is_of, is_of_client, kind_of_body, pins_of, generation_of, targets_of, status_of, has_condition, has_been_ready};
+ghost use Rattle.std.specs.Prelude.{◌≡◌, ◌↔◌, IsTrue, IsSome, unwrap_or};
+ghost use Rattle.std.specs.Option.{option_copied};
+ghost use Rattle.resource_types.specs.Objects.{IsOf, is_of, is_of_client, kind_of_body, pins_of, generation_of, targets_of, no_template, template_of, no_status, status_of, with_status, has_condition, has_been_ready};
 
 use crate::conditions::{CondName, Condition, Part, Truth};
 use crate::metadata::Meta;
@@ -130,17 +131,82 @@ impl Body {
         }
     }
 
+    /// The template of a Service or a Configuration.
+    pub fn template(&self) -> Option<&Template>
+        ensures value { unwrap_or (option_copied result) no_template ≡ template_of self.now }
+        ensures service { kind_of_body self.now ≡ Kind.Service → IsSome result }
+        ensures configuration { kind_of_body self.now ≡ Kind.Configuration → IsSome result }
+    {
+        match self {
+            Body::Service { template, .. } => Some(template),
+            Body::Configuration { template, .. } => Some(template),
+            _ => None,
+        }
+    }
+
+    /// The status; none of a Health or a Table.
+    pub fn status(&self) -> Option<&ObjectStatus>
+        ensures { unwrap_or (option_copied result) no_status ≡ status_of self.now }
+    {
+        match self {
+            Body::Service { status, .. } => Some(status),
+            Body::Configuration { status, .. } => Some(status),
+            Body::Revision { status, .. } => Some(status),
+            Body::Route { status, .. } => Some(status),
+            _ => None,
+        }
+    }
+
     /// The conditions in the status; none of a Health or a Table.
     pub fn conditions(&self) -> &[Condition]
         ensures { result.now ≡ (status_of self.now).conditions }
     {
-        match self {
-            Body::Service { status, .. } => status.conditions.as_slice(),
-            Body::Configuration { status, .. } => status.conditions.as_slice(),
-            Body::Revision { status, .. } => status.conditions.as_slice(),
-            Body::Route { status, .. } => status.conditions.as_slice(),
-            _ => &[],
+        match self.status() {
+            Some(status) => status.conditions.as_slice(),
+            None => &[],
         }
+    }
+}
+
+/// The body with another status, where it has one: a Health and a Table stay as they are.
+pub fn with_status(body: Body, new: ObjectStatus) -> Body
+    ensures { result ≡ with_status new body }
+{
+    match body {
+        Body::Service {
+            template,
+            traffic,
+            status: _,
+        } => Body::Service {
+            template,
+            traffic,
+            status: new,
+        },
+        Body::Configuration {
+            template,
+            status: _,
+        } => Body::Configuration {
+            template,
+            status: new,
+        },
+        Body::Revision {
+            spec,
+            generation,
+            pins,
+            active,
+            status: _,
+        } => Body::Revision {
+            spec,
+            generation,
+            pins,
+            active,
+            status: new,
+        },
+        Body::Route { traffic, status: _ } => Body::Route {
+            traffic,
+            status: new,
+        },
+        other => other,
     }
 }
 

@@ -2,15 +2,12 @@
 use crate::{
     Actor, Body, CondName, Condition, Controller, Key, Kind, Labels, Manifest, ManifestSpec, Meta,
     Name, Object, ObjectStatus, Owner, Part, PodSpec, Row, SlotKey, Target, Template, Truth,
-    current, decimal_text, in_use, is_free, latest_created, latest_ready, manifest_of,
-    owner_stands, standing,
+    current, decimal_text, in_use, is_free, manifest_of, standing,
 };
 use json_tree::{Alike, Copied, Json, Members, Seq, Text};
 use std::alloc::{AllocError, Global};
 use std::test::Fail;
-use version_store::item::Stamp;
-use version_store::store::Store;
-use version_store::write::{Applied, Change, Expect, Plan, Write};
+use version_store::{Change, Expect, Plan, Stamp, Store, Write};
 
 fn name(alloc: Global, simple: &str) -> Result<Name, AllocError> {
     Ok(Name {
@@ -201,31 +198,47 @@ fn table(alloc: Global) -> Result<Object, AllocError> {
     Ok(Object { key, meta, body })
 }
 
-// Fails unless the object has an equal copy, which isn't that other one.
-fn copies(alloc: Global, object: &Object, other: &Object) -> Result<(), Fail> {
-    let copy = object.copy(alloc)?;
-    if copy == *object && copy.equals(object) && !copy.equals(other) {
-        Ok(())
-    } else {
-        Err(Fail::from("a copy is equal, and no other object is"))
+// An object of the kind, with something in each of its parts.
+fn object(alloc: Global, kind: Kind) -> Result<Object, AllocError> {
+    match kind {
+        Kind::Service => service(alloc),
+        Kind::Configuration => configuration(alloc),
+        Kind::Revision => revision(alloc, "hello-00001", 1, 1, Truth::True),
+        Kind::Route => route(alloc, "hello-00001"),
+        Kind::Health => health(alloc),
+        Kind::Table => table(alloc),
     }
+}
+
+// Whether a copy of the object equals it.
+fn has_equal_copy(alloc: Global, object: &Object) -> Result<bool, AllocError> {
+    let copy = object.copy(alloc)?;
+    Ok(copy.equals(object))
+}
+
+// Whether an object of the kind is copied.
+fn is_copied(alloc: Global, kind: Kind) -> Result<bool, AllocError> {
+    let object = object(alloc, kind)?;
+    has_equal_copy(alloc, &object)
 }
 
 #[test]
 fn copies_objects(rt: HostRuntime) -> Result<(), Fail> {
-    let alloc = rt.alloc();
-    let other = revision(alloc, "hello-00001", 1, 1, Truth::False)?;
-    copies(alloc, &service(alloc)?, &other)?;
-    copies(alloc, &configuration(alloc)?, &other)?;
-    let ready = revision(alloc, "hello-00001", 1, 1, Truth::True)?;
-    copies(alloc, &ready, &other)?;
-    copies(alloc, &route(alloc, "hello-00001")?, &other)?;
-    copies(alloc, &health(alloc)?, &other)?;
-    copies(alloc, &table(alloc)?, &other)
+    for kind in [
+        Kind::Service,
+        Kind::Configuration,
+        Kind::Revision,
+        Kind::Route,
+        Kind::Health,
+        Kind::Table,
+    ] {
+        assert!(rt; is_copied(rt.alloc(), kind)?);
+    }
+    Ok(())
 }
 
 #[test]
-fn copies_actors_and_manifests(rt: HostRuntime) -> Result<(), Fail> {
+fn copies_actors(rt: HostRuntime) -> Result<(), Fail> {
     let alloc = rt.alloc();
     let slot = SlotKey {
         controller: Controller::Collector.copy(alloc)?,
@@ -233,12 +246,11 @@ fn copies_actors_and_manifests(rt: HostRuntime) -> Result<(), Fail> {
     };
     let actor = Actor::Controller(slot);
     assert_eq!(rt; actor.copy(alloc)?, actor);
-    let service = service(alloc)?;
-    if !service.is_of_client() {
-        return Err(Fail::from("a Service is of a client"));
-    }
-    let manifest = manifest_of(alloc, &service)?;
-    assert_eq!(rt; manifest.copy(alloc)?, manifest);
+    Ok(())
+}
+
+// Whether the manifest is the one that is written by hand.
+fn is_manifest_of_service(alloc: Global, manifest: &Manifest) -> Result<bool, AllocError> {
     let want = Manifest {
         api: Text::new(alloc, "serving.knative.dev/v1")?,
         kind: Text::new(alloc, "Service")?,
@@ -252,12 +264,43 @@ fn copies_actors_and_manifests(rt: HostRuntime) -> Result<(), Fail> {
             traffic: traffic(alloc, "")?,
         },
     };
-    assert_eq!(rt; manifest, want);
-    assert!(rt; manifest.version.is("12"));
+    Ok(want == *manifest && manifest.version.is("12"))
+}
+
+// Whether a copy of the manifest is that too.
+fn is_manifest_copied(alloc: Global, manifest: &Manifest) -> Result<bool, AllocError> {
+    let copy = manifest.copy(alloc)?;
+    is_manifest_of_service(alloc, &copy)
+}
+
+// The manifest of an object that is a client's.
+fn client_manifest(alloc: Global, object: &Object) -> Result<Option<Manifest>, AllocError> {
+    if !object.is_of_client() {
+        return Ok(None);
+    }
+    Ok(Some(manifest_of(alloc, object)?))
+}
+
+// Whether the object is a client's Service, and its manifest is written and copied.
+fn has_manifest(alloc: Global, object: &Object) -> Result<bool, AllocError> {
+    match client_manifest(alloc, object)? {
+        Some(manifest) => is_manifest_copied(alloc, &manifest),
+        None => Ok(false),
+    }
+}
+
+fn has_service_manifest(alloc: Global) -> Result<bool, AllocError> {
+    let service = service(alloc)?;
+    has_manifest(alloc, &service)
+}
+
+#[test]
+fn makes_and_copies_a_manifest(rt: HostRuntime) -> Result<(), Fail> {
+    assert!(rt; has_service_manifest(rt.alloc())?);
     Ok(())
 }
 
-fn put(alloc: Global, store: &mut Store<Object>, object: Object) -> Result<Applied, AllocError> {
+fn put(alloc: Global, store: &mut Store<Object>, object: Object) -> Result<(), AllocError> {
     store.prepare()?;
     let plan = Plan {
         key: object.key.copy(alloc)?,
@@ -265,19 +308,19 @@ fn put(alloc: Global, store: &mut Store<Object>, object: Object) -> Result<Appli
         guarded: false,
         change: Change::Put(object),
     };
-    Ok(store.apply(Write {
+    store.apply(Write {
         plan,
         actor: Actor::Client,
         seen: 0,
         read_at: 0,
         moment: 0,
-    }))
+    });
+    Ok(())
 }
 
 // Versions 1 to 7: the Configuration, five Revisions, and a Route on one of them.
-fn filled(alloc: Global) -> Result<Store<Object>, AllocError> {
-    let mut store = Store::new(alloc);
-    put(alloc, &mut store, configuration(alloc)?)?;
+fn fill(alloc: Global, store: &mut Store<Object>) -> Result<(), AllocError> {
+    put(alloc, store, configuration(alloc)?)?;
     for (simple, uid, generation, truth) in [
         ("hello-b", 1, 1, Truth::True),
         ("hello-a", 1, 1, Truth::True),
@@ -287,52 +330,48 @@ fn filled(alloc: Global) -> Result<Store<Object>, AllocError> {
     ] {
         put(
             alloc,
-            &mut store,
+            store,
             revision(alloc, simple, uid, generation, truth)?,
         )?;
     }
-    put(alloc, &mut store, route(alloc, "hello-b")?)?;
-    Ok(store)
+    put(alloc, store, route(alloc, "hello-b")?)
 }
 
-#[test]
-fn looks_up(rt: HostRuntime) -> Result<(), Fail> {
-    let alloc = rt.alloc();
-    let store = filled(alloc)?;
-    let space = Text::new(alloc, "default")?;
-    let hello = Text::new(alloc, "hello")?;
-    let Some(configuration) = standing(&store, Kind::Configuration, &space, &hello) else {
+// Whether the Revision is the Configuration's of its generation, is free and is in use.
+fn facts(store: &Store<Object>, configuration: &Object, name: &Name) -> (Option<u64>, bool, bool) {
+    let current = if configuration.is_of(Kind::Configuration) {
+        current(store, configuration, &name.name)
+    } else {
+        None
+    };
+    (current, is_free(store, name), in_use(store, name))
+}
+
+// What is asked of the filled store, and what must come of it.
+fn looks_up_in(alloc: Global, store: &Store<Object>) -> Result<(), Fail> {
+    let Some(configuration) = standing(store, Kind::Configuration, "default", "hello") else {
         return Err(Fail::from("the Configuration stands"));
     };
-    if !configuration.is_of(Kind::Configuration) {
-        return Err(Fail::from("it is a Configuration"));
-    }
-    assert_eq!(rt; latest_created(&store, configuration), Some(4));
-    assert_eq!(rt; latest_ready(&store, configuration), Some(3));
-    for (simple, of_generation, free, used) in [
+    for (simple, current, free, used) in [
         ("hello-a", Some(3), true, true),
         ("hello-b", Some(2), false, true),
         ("hello-c", None, true, true),
         ("hello-d", None, true, false),
         ("hello-e", None, true, false),
         ("hello-f", None, false, false),
+        ("", None, false, false),
     ] {
         let name = name(alloc, simple)?;
-        assert_eq!(rt;
-            current(&store, configuration, &name.name),
-            of_generation,
-            "at {simple}"
-        );
-        assert_eq!(rt; is_free(&store, &name), free, "at {simple}");
-        assert_eq!(rt; in_use(&store, &name), used, "at {simple}");
-    }
-    for (uid, want) in [(1, true), (9, false)] {
-        let owner = Owner {
-            kind: Kind::Configuration,
-            name: hello.copy(alloc)?,
-            uid,
-        };
-        assert_eq!(rt; owner_stands(&store, &space, &owner), want, "at {uid}");
+        if facts(store, configuration, &name) != (current, free, used) {
+            return Err(Fail::from(simple));
+        }
     }
     Ok(())
+}
+
+#[test]
+fn looks_up(rt: HostRuntime) -> Result<(), Fail> {
+    let mut store = Store::new(rt.alloc());
+    fill(rt.alloc(), &mut store)?;
+    looks_up_in(rt.alloc(), &store)
 }

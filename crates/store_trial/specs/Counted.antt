@@ -1,5 +1,6 @@
 -- The laws of an item whose keys count their comparisons.
 use Rattle.std.specs.Prelude.{Bool, true, false, refl, ◌==◌}
+use Rattle.std.proofs.Common.{ap}
 use Rattle.std.specs.Ordering.{bool_cmp}
 use Rattle.std.specs.declared.cmp.Ordering.{Ordering}
 use Rattle.std.specs.Cmp.{IsEquivalence, on_equiv, nat_eq_equiv}
@@ -27,8 +28,12 @@ counted_alone = record {
 pub always_equivalent : IsEquivalence {K = Counted} (λ a b. true)
 always_equivalent = record { refl = λ x. refl; symm = λ x y. refl; congr = λ x y z e. refl }
 
-pub counted_same : IsSameButStamp {O = Counted} given_stamp same_counted
-counted_same = record { alike = on_equiv (λ o. o.key.number) nat_eq_equiv; stamps = λ o p s t. refl }
+pub counted_same : IsSameButStamp {O = Counted} (λ o. o.key) given_stamp same_counted
+counted_same = record {
+  alike = on_equiv (λ o. o.key.number) nat_eq_equiv;
+  stamps = λ o p s t. refl;
+  exact = λ o p s k e. ap (λ x. record { key = x; stamp = s }) k;
+}
 
 -- all keys are of one kind
 pub one_kind : {K : Type 0} (cmp : K → K → Ordering) → KeepsKindsTogether cmp (λ k. true) bool_cmp

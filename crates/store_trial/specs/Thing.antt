@@ -81,7 +81,7 @@ exact_thing a b e =
 same_back : (a b : Thing) → same_thing a b ≡ true → same_thing b a ≡ true
 same_back a b e = ap (λ t. same_thing t a) (sym (exact_thing a b e)) ∙ own_thing a
 
-pub same_but_stamp_of : IsSameButStamp {O = Thing} with_stamp same_thing
+pub same_but_stamp_of : IsSameButStamp {O = Thing} (λ o. o.key) with_stamp same_thing
 same_but_stamp_of = record {
   alike = record {
     refl = own_thing;
@@ -89,4 +89,5 @@ same_but_stamp_of = record {
     congr = λ a b z e. ap (λ t. same_thing t z) (exact_thing a b e);
   };
   stamps = λ a b s t. refl;
+  exact = λ a b s k e. ap (λ o. with_stamp o s) (exact_thing a b e);
 }

@@ -7,10 +7,7 @@ ghost use Rattle.store_trial.specs.Copies.{next_copy, answer_of, found_of, copie
 
 use crate::thing::{Key, KeyParts, Kind, Thing};
 use std::alloc::{AllocError, Global};
-use version_store::item::{Item, Stamp};
-use version_store::reconciler::Reconciler;
-use version_store::store::Store;
-use version_store::write::{Change, Expect, Plan, Write};
+use version_store::{Change, Expect, Item, Plan, Reconciler, Stamp, Store, Write};
 
 /// Makes a copy of each source, with this status.
 #[derive(Drop)]

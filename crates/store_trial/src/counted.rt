@@ -8,7 +8,7 @@ ghost use Rattle.store_trial.specs.Counted.{given_stamp, counted_alone, always_e
 
 use std::cell::Cell;
 use std::cmp::Ordering;
-use version_store::item::{Item, Stamp};
+use version_store::{Item, SearchKey, Stamp};
 
 /// A number, and the counter that each comparison raises.
 pub struct CountedKey<'a> {
@@ -129,6 +129,14 @@ impl<'a> Item for Counted<'a> {
     ghost same_but_stamp = { counted_same };
 
     ghost kinds_together = { one_kind (on (λ k. k.number) nat_cmp) };
+}
+
+impl<'a> SearchKey<Counted<'a>> for CountedKey<'a> {
+    ghost sought = { λ key. key };
+
+    fn compare(&self, key: &CountedKey<'a>) -> Ordering {
+        key.cmp(self)
+    }
 }
 
 #[cfg(test)]

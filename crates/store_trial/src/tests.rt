@@ -6,11 +6,7 @@ use crate::copier::Copier;
 use crate::thing::{Actor, Key, Kind, Thing};
 use std::alloc::{AllocError, Global};
 use std::test::Fail;
-use version_store::item::Stamp;
-use version_store::plain;
-use version_store::reconciler::Reconciler;
-use version_store::store::Store;
-use version_store::write::{Applied, Change, Expect, Plan, Write};
+use version_store::{Applied, Change, Expect, Plan, Reconciler, Stamp, Store, Write, plain};
 
 const NO_STAMP: Stamp = Stamp {
     version: 0,

@@ -4,7 +4,7 @@ ghost use Rattle.store_trial.specs.Thing.{is_source, same_thing, same_spec_of, w
 ghost use Rattle.store_trial.specs.KeyOrder.{kinds_together_of};
 
 use std::cmp::Ordering;
-use version_store::item::{Item, SearchKey, Stamp};
+use version_store::{Item, SearchKey, Stamp};
 
 /// The kinds of things.
 #[derive(Clone, Copy, Debug, PartialEq, Eq, PartialOrd, Ord)]

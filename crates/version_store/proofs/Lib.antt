@@ -5,7 +5,7 @@ pub mod Journals
 pub mod Indexed
 pub mod States
 pub mod Present
-pub mod KindRange
+pub mod SpanRange
 pub mod Lasts
 pub mod Step
 pub mod Prefix

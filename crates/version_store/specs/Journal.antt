@@ -8,7 +8,7 @@ use Rattle.version_store.specs.declared.write.Entry.{Entry}
 use Rattle.version_store.specs.State.{find, changed, state}
 
 -- what contracts see of a store: its journal, and for how many more entries it has memory
-pub record Journal (E : Type 0) : Type 0 where
+pub record StoreView (E : Type 0) : Type 0 where
   pub entries : List E
   pub spare : ℕ
 

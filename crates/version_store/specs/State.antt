@@ -1,7 +1,7 @@
 -- The state: the objects that stand, in order of key.
 use Rattle.std.specs.Prelude.{◌≡◌, ℕ, ◌≤◌, List, [], ◌∷◌, length, take, map, Bool, cond, Option, Some, None}
 use Rattle.std.specs.List.{filter}
-use Rattle.std.specs.Ordering.{is_eq}
+use Rattle.std.specs.Ordering.{is_eq, is_gt}
 use Rattle.std.specs.declared.cmp.Ordering.{Ordering}
 use Rattle.std.specs.declared.cmp.Ordering.TheVariants.{Less, Equal, Greater}
 use Rattle.version_store.specs.declared.item.Stamp.{Stamp}
@@ -41,6 +41,14 @@ is_of_kind key_of kind_of kind_eq kind o = kind_eq (kind_of (key_of o)) kind
 -- the objects of a kind, in order of key
 abbrev pub of_kind : {O K D : Type 0} → (O → K) → (K → D) → (D → D → Bool) → D → List O → List O
 of_kind key_of kind_of kind_eq kind st = filter (is_of_kind key_of kind_of kind_eq kind) st
+
+-- the objects whose keys are in a span, in order of key: `side` tells of a key whether it is before, in or behind it
+abbrev pub in_span : {O K : Type 0} → (O → K) → (K → Ordering) → List O → List O
+in_span key_of side st = filter (λ o. is_eq (side (key_of o))) st
+
+-- the objects behind a key, in order of key
+abbrev pub behind : {O K : Type 0} → (O → K) → (K → K → Ordering) → K → List O → List O
+behind key_of cmp key st = filter (λ o. is_gt (cmp (key_of o) key)) st
 
 -- the versions of objects
 abbrev pub versions_of : {O : Type 0} → (O → Stamp) → List O → List ℕ

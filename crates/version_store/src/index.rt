@@ -1,13 +1,13 @@
-//! Searches in lists of versions that are in order of key.
-ghost use Rattle.std.specs.Prelude.{◌≡◌, ◌+◌, ◌-◌, ◌<◌, ◌≤◌, Some, length, slice_get, slice_index, take, drop, map, cond, IfOk};
+//! Searches in lists of versions that are in order of key, and the versions on a kind.
+ghost use Rattle.std.specs.Prelude.{◌≡◌, ◌+◌, ◌-◌, ◌<◌, ◌≤◌, ◌^◌, Some, length, slice_get, slice_index, take, drop, map, cond, IfOk};
 ghost use Rattle.std.specs.Option.{option_copied};
 ghost use Rattle.std.specs.Vec.{vec_len, vec_capacity};
-ghost use Rattle.version_store.specs.State.{state, find, of_kind, versions_of};
-ghost use Rattle.version_store.specs.Journal.{last_version};
+ghost use Rattle.version_store.specs.State.{state, find, of_kind, in_span, versions_of};
+ghost use Rattle.version_store.specs.Journal.{last_version, changes};
 ghost use Rattle.version_store.specs.Index.{IsIndex, IsPresentIndex, keys_at, leading, search_in, IsPlaceIn, found, version_found, put_at, removed_at, row_key, row_version, last_rows};
 
-use crate::cut::{BelowKey, BelowKind, Cut, UpToKind};
-use crate::item::{Item, SearchKey};
+use crate::cut::{Below, BelowKey, Cut, OfKind, UpTo};
+use crate::item::{Item, SearchKey, Span};
 use crate::write::Entry;
 use std::alloc::{AllocError, Global};
 use std::cmp::Ordering;
@@ -125,42 +125,21 @@ pub fn last<O: Item>(entries: &[Entry<O>], lasts: &[u64], key: &O::Key) -> u64
     version_at(lasts, place)
 }
 
-/// The places of the objects of a kind: the first, and the one behind the last.
-fn range_of<O: Item>(entries: &[Entry<O>], present: &[u64], kind: O::Kind) -> (usize, usize)
+/// The places of the objects whose keys are in the span: the first, and the one behind the last.
+pub fn range_of<O: Item, S: Span<O>>(
+    entries: &[Entry<O>],
+    present: &[u64],
+    span: &S,
+) -> (usize, usize)
     requires { IsPresentIndex O.Item O.Key.cmp entries.now present.now }
-    ensures objects { of_kind O.key O.kind_of O.Kind.eq kind (state O.key O.Key.cmp entries.now) ≡ take (result.1 - result.0) (drop result.0 (state O.key O.Key.cmp entries.now)) }
+    ensures objects { in_span O.key (S.side span.now) (state O.key O.Key.cmp entries.now)
+        ≡ take (result.1 - result.0) (drop result.0 (state O.key O.Key.cmp entries.now)) }
     ensures ordered { result.0 ≤ result.1 }
     ensures within { result.1 ≤ length present.now }
 {
-    let first = place_of(entries, present, &BelowKind(kind));
-    let end = place_of(entries, present, &UpToKind(kind));
+    let first = place_of(entries, present, &Below(span));
+    let end = place_of(entries, present, &UpTo(span));
     (first, end)
-}
-
-/// How many objects of the kind stand.
-pub fn count<O: Item>(entries: &[Entry<O>], present: &[u64], kind: O::Kind) -> u64
-    requires { IsPresentIndex O.Item O.Key.cmp entries.now present.now }
-    ensures { result ≡ length (of_kind O.key O.kind_of O.Kind.eq kind (state O.key O.Key.cmp entries.now)) }
-{
-    let (first, end) = range_of(entries, present, kind);
-    (end - first) as u64
-}
-
-/// The object at a place among those of the kind.
-pub fn nth<'a, O: Item>(
-    entries: &'a [Entry<O>],
-    present: &[u64],
-    kind: O::Kind,
-    place: u64,
-) -> Option<&'a O>
-    requires { IsPresentIndex O.Item O.Key.cmp entries.now present.now }
-    ensures { option_copied result ≡ slice_get (of_kind O.key O.kind_of O.Kind.eq kind (state O.key O.Key.cmp entries.now)) place }
-{
-    let (first, end) = range_of(entries, present, kind);
-    if place >= (end - first) as u64 {
-        return None;
-    }
-    object_at(entries, present, Ok(first + place as usize))
 }
 
 /// The versions of the objects of the kind that stand.
@@ -173,8 +152,32 @@ pub fn list<O: Item>(
     requires { IsPresentIndex O.Item O.Key.cmp entries.now present.now }
     ensures { IfOk result (λ list. list.items ≡ versions_of O.stamp (of_kind O.key O.kind_of O.Kind.eq kind (state O.key O.Key.cmp entries.now))) }
 {
-    let (first, end) = range_of(entries, present, kind);
+    let (first, end) = range_of(entries, present, &OfKind(kind));
     Vec::from_slice(alloc, &present[first..end])
+}
+
+/// The versions of the first `most` entries on the kind after a position.
+pub fn changes<O: Item>(
+    alloc: Global,
+    entries: &[Entry<O>],
+    kind: O::Kind,
+    after: u64,
+    most: u64,
+) -> Result<Vec<u64>, AllocError>
+    requires { length entries.now < 2 ^ 64 }
+    ensures { IfOk result (λ versions. versions.items ≡ changes O.kind_of O.Kind.eq entries.now kind after most) }
+{
+    let mut versions = Vec::new(alloc);
+    let start = after.min(entries.len() as u64);
+    for index in start as usize..entries.len() {
+        if versions.len() as u64 >= most {
+            break;
+        }
+        if O::kind_of(&entries[index].key) == kind {
+            versions.push(index as u64 + 1)?;
+        }
+    }
+    Ok(versions)
 }
 
 /// Puts a version at the place of its key. There is memory for it.

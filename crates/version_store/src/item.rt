@@ -2,7 +2,8 @@
 ghost use Rattle.std.specs.Prelude.{◌≡◌, Bool};
 ghost use Rattle.std.specs.Cmp.{IsEquivalence};
 ghost use Rattle.version_store.specs.declared.item.Stamp.{Stamp};
-ghost use Rattle.version_store.specs.Laws.{ChangesStampAlone, IsSameButStamp, KeepsKindsTogether};
+ghost use Rattle.std.specs.declared.cmp.Ordering.{Ordering};
+ghost use Rattle.version_store.specs.Laws.{ChangesStampAlone, IsSameButStamp, IsSpan, KeepsKindsTogether};
 
 use std::cmp::Ordering;
 
@@ -82,7 +83,7 @@ pub trait Item: Sized + Drop {
     ghost spec_equivalence: { IsEquivalence same_spec };
 
     /// To be the same looks at all but the stamps.
-    ghost same_but_stamp: { IsSameButStamp stamped same };
+    ghost same_but_stamp: { IsSameButStamp key stamped same };
 
     /// The keys of a kind stand next to each other, and the kinds in their order.
     ghost kinds_together: { KeepsKindsTogether Self.Key.cmp kind_of Self.Kind.cmp };
@@ -95,4 +96,16 @@ pub trait SearchKey<O: Item> {
     /// How a key compares to the one that is sought.
     fn compare(&self, key: &O::Key) -> Ordering
         ensures { result ≡ O.Key.cmp key.now (sought self.now) };
+}
+
+/// Keys that stand next to each other in the order, told by borrowed parts: a walk over them takes no memory.
+pub trait Span<O: Item> {
+    ghost side: { Self → O.Key → Ordering };
+
+    /// Whether the key is before the span (`Less`), in it (`Equal`) or behind it (`Greater`).
+    fn side(&self, key: &O::Key) -> Ordering
+        ensures { result ≡ side self.now key.now };
+
+    /// The keys of the span stand next to each other.
+    ghost together: { (span : Self) → IsSpan O.Key.cmp (side span) };
 }

@@ -1,14 +1,13 @@
 //! The plain program: answers of a store, each by a scan of its journal.
-ghost use Rattle.std.specs.Prelude.{◌≡◌, ◌<◌, ◌-◌, ◌^◌, length, IfOk};
+ghost use Rattle.std.specs.Prelude.{◌≡◌, ◌<◌, ◌-◌, ◌^◌, length};
 ghost use Rattle.std.specs.Option.{option_copied};
 ghost use Rattle.version_store.specs.State.{state, find};
-ghost use Rattle.version_store.specs.Journal.{last_version, newest_guard, changes, AreStamped};
+ghost use Rattle.version_store.specs.Journal.{last_version, newest_guard, AreStamped};
 ghost use Rattle.version_store.specs.Apply.{answer_to};
 
 use crate::decide;
 use crate::item::Item;
 use crate::write::{Applied, Entry, Write};
-use std::alloc::{AllocError, Global};
 
 /// The object of the key, if one stands after these entries.
 pub fn find<'a, O: Item>(entries: &'a [Entry<O>], key: &O::Key) -> Option<&'a O>
@@ -74,28 +73,4 @@ pub fn answer_to<O: Item>(entries: &[Entry<O>], write: &Write<O>) -> Applied
         entries.len() as u64 + 1,
         write,
     )
-}
-
-/// The versions of the first `most` entries on the kind after a position.
-pub fn changes<O: Item>(
-    alloc: Global,
-    entries: &[Entry<O>],
-    kind: O::Kind,
-    after: u64,
-    most: u64,
-) -> Result<Vec<u64>, AllocError>
-    requires { length entries.now < 2 ^ 64 }
-    ensures { IfOk result (λ versions. versions.items ≡ changes O.kind_of O.Kind.eq entries.now kind after most) }
-{
-    let mut versions = Vec::new(alloc);
-    let start = after.min(entries.len() as u64);
-    for index in start as usize..entries.len() {
-        if versions.len() as u64 >= most {
-            break;
-        }
-        if O::kind_of(&entries[index].key) == kind {
-            versions.push(index as u64 + 1)?;
-        }
-    }
-    Ok(versions)
 }

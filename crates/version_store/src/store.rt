@@ -1,14 +1,16 @@
 //! The store: a journal with an index beside it.
 ghost use Rattle.std.specs.Prelude.{◌≡◌, ◌+◌, ◌-◌, ◌<◌, ◌≤◌, ◌^◌, [], length, slice_get, OnOk, OnErr, IfOk};
 ghost use Rattle.std.specs.Option.{option_copied};
-ghost use Rattle.version_store.specs.State.{state, find, of_kind, versions_of, Grows};
+ghost use Rattle.version_store.specs.State.{state, find, of_kind, in_span, behind, versions_of, Grows};
 ghost use Rattle.version_store.specs.Journal.{last_version, entry_at_version, changes, stamp_after, AreStamped};
 ghost use Rattle.version_store.specs.Apply.{answer_to, entries_after, spare_after, PutsItsKey, IsNoRemovalOfNothing};
 
+use crate::cut::{Behind, OfKind};
 use crate::index::WholeKey;
-use crate::item::{Item, SearchKey, Stamp};
+use crate::item::{Item, SearchKey, Span, Stamp};
+use crate::walk::Walk;
 use crate::write::{Applied, Entry, Write};
-use crate::{decide, index, plain};
+use crate::{decide, index};
 use std::alloc::{AllocError, Global};
 use std::marker::Model;
 
@@ -30,10 +32,10 @@ pub struct Store<O: Item> {
 
 impl<O: Item> Model for Store<O> {
     ghost use Rattle.version_store.specs.declared.write.Entry.{Entry};
-    ghost use Rattle.version_store.specs.Journal.{Journal};
+    ghost use Rattle.version_store.specs.Journal.{StoreView};
     ghost use Rattle.version_store.specs.Index.{IsIndexed};
 
-    ghost Value = { Journal (Entry O O.Kind O.Key O.Name O.Actor) };
+    ghost Value = { StoreView (Entry O O.Kind O.Key O.Name O.Actor) };
 
     ghost view = { λ s. record { entries = s.entries.items; spare = s.spare } };
 
@@ -101,18 +103,44 @@ impl<O: Item> Store<O> {
         index::last(&self.entries, &self.lasts, key)
     }
 
-    /// How many objects of the kind stand.
-    pub fn count(&self, kind: O::Kind) -> u64
-        ensures { result ≡ length (of_kind O.key O.kind_of O.Kind.eq kind (state O.key O.Key.cmp self.now.entries)) }
+    /// The objects of the kind that stand, in order of key.
+    pub fn walk(&self, kind: O::Kind) -> Walk<'_, O>
+        ensures { result ≡ of_kind O.key O.kind_of O.Kind.eq kind (state O.key O.Key.cmp self.now.entries) }
     {
-        index::count(&self.entries, &self.present, kind)
+        self.walk_in(&OfKind(kind))
     }
 
-    /// The object at a place, counted from 0, among those of the kind in order of key.
-    pub fn nth(&self, kind: O::Kind, place: u64) -> Option<&O>
-        ensures { option_copied result ≡ slice_get (of_kind O.key O.kind_of O.Kind.eq kind (state O.key O.Key.cmp self.now.entries)) place }
+    /// The objects that stand and whose keys are in the span, in order of key.
+    pub fn walk_in<S: Span<O>>(&self, span: &S) -> Walk<'_, O>
+        ensures { result ≡ in_span O.key (S.side span.now) (state O.key O.Key.cmp self.now.entries) }
     {
-        index::nth(&self.entries, &self.present, kind, place)
+        Walk::new(&self.entries, &self.present, span)
+    }
+
+    /// The objects of the kind that stand and whose keys are behind the one that is sought by its parts, in order of key.
+    pub fn walk_after<S: SearchKey<O>>(&self, kind: O::Kind, sought: &S) -> Walk<'_, O>
+        ensures { result
+            ≡ behind O.key O.Key.cmp (S.sought sought.now)
+            (of_kind O.key O.kind_of O.Kind.eq kind (state O.key O.Key.cmp self.now.entries)) }
+    {
+        self.walk_in(&Behind { kind, sought })
+    }
+
+    /// How many objects of the kind stand.
+    pub fn count(&self, kind: O::Kind) -> u64
+        ensures { result
+            ≡ length (of_kind O.key O.kind_of O.Kind.eq kind (state O.key O.Key.cmp self.now.entries)) }
+    {
+        self.walk(kind).len() as u64
+    }
+
+    /// The object at a place, counted from 0, among those of the kind in order of key. A walk reads all of them at less
+    /// cost.
+    pub fn nth(&self, kind: O::Kind, place: u64) -> Option<&O>
+        ensures { option_copied result
+            ≡ slice_get (of_kind O.key O.kind_of O.Kind.eq kind (state O.key O.Key.cmp self.now.entries)) place }
+    {
+        self.walk(kind).get(place as usize)
     }
 
     /// The versions of the objects of the kind that stand, in order of key.
@@ -132,7 +160,7 @@ impl<O: Item> Store<O> {
     ) -> Result<Vec<u64>, AllocError>
         ensures { IfOk result (λ versions. versions.items ≡ changes O.kind_of O.Kind.eq self.now.entries kind after most) }
     {
-        plain::changes(alloc, &self.entries, kind, after, most)
+        index::changes(alloc, &self.entries, kind, after, most)
     }
 
     /// The stamp that the object would get if it were put now, at this moment.
@@ -148,6 +176,7 @@ impl<O: Item> Store<O> {
     pub fn prepare(&mut self) -> Result<(), AllocError>
         ensures entries { self.new.entries ≡ self.old.entries }
         ensures spare { OnOk result (1 ≤ self.new.spare) }
+        ensures kept { self.old.spare ≤ self.new.spare }
         ensures room { OnOk result (length self.new.entries < 2 ^ 64 - 1) }
         ensures err { OnErr result (self.new.spare ≡ self.old.spare) }
     {

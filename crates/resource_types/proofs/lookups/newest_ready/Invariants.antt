@@ -1,10 +1,9 @@
 use Rattle.std.proofs.Common.{◌≡◌, drop}
 use Rattle.std.specs.Prelude.{◌&&◌}
 use Rattle.std.specs.Option.{option_copied}
-use Rattle.resource_types.specs.declared.names.Kind.TheVariants as kind
 use Rattle.resource_types.specs.Objects.{has_been_ready}
-use Rattle.resource_types.specs.Lookups.{latest_from, is_owned_by, latest_ready, of_kind, state}
+use Rattle.resource_types.specs.Lookups.{latest_from, is_owned_by, latest_ready, state}
 use Rattle.resource_types.proofs.lookups.newest_ready.Given as goal
 
 abbrev pub invariant-loop-place : goal.invariant-loop-place
-invariant-loop-place l = latest_from (λ r. is_owned_by l.configuration r && has_been_ready r) (option_copied l.best) (drop l.place (of_kind kind.Revision (state l.store.entries))) ≡ latest_ready (state l.store.entries) l.configuration
+invariant-loop-place l = latest_from (λ r. is_owned_by l.configuration r && has_been_ready r) (option_copied l.best) (drop l.place l.revisions) ≡ latest_ready (state l.store.entries) l.configuration

@@ -2,8 +2,8 @@ use Rattle.std.proofs.Common.{◌≡◌, ℕ, ◌+◌, ◌-◌, ◌<◌, ◌≤�
 use Rattle.std.proofs.lemmas.List.{drop_more}
 use Rattle.version_store.specs.declared.write.Entry.{Entry}
 use Rattle.version_store.specs.Journal.{changes_from}
-use Rattle.version_store.proofs.plain.changes.Goals.{then-eq+in_ok-push, else-eq, else-loop-index-test, then-loop-index-test+then-len-most}
-use Rattle.version_store.proofs.plain.changes.Goals as goal
+use Rattle.version_store.proofs.index.changes.Goals.{then-eq+in_ok-push, else-eq, else-loop-index-test, then-loop-index-test+then-len-most}
+use Rattle.version_store.proofs.index.changes.Goals as goal
 
 take_one : (list rest : List ℕ) (most v : ℕ) → length list < most → (list ++ v ∷ []) ++ take (most - length (list ++ v ∷ [])) rest ≡ list ++ take (most - length list) (v ∷ rest)
 take_one list rest most v h =

@@ -1,6 +1,6 @@
 use Rattle.std.proofs.Common.{◌≡◌, ◌-◌, ◌++◌, ◌≤◌, length, take, drop}
 use Rattle.version_store.specs.Journal.{changes, changes_from}
-use Rattle.version_store.proofs.plain.changes.Given as goal
+use Rattle.version_store.proofs.index.changes.Given as goal
 
 abbrev pub invariant-loop-index : goal.invariant-loop-index
 invariant-loop-index g l =

@@ -1,0 +1,25 @@
+-- The types of the control plane's objects and of the store, in one place: the crates above import them from here.
+pub use Rattle.version_store.specs.declared.item.Stamp.{Stamp}
+pub use Rattle.version_store.specs.declared.write.Change.{Change}
+pub use Rattle.version_store.specs.declared.write.Expect.{Expect}
+pub use Rattle.version_store.specs.declared.write.Applied.{Applied}
+pub use Rattle.resource_types.specs.declared.names.Kind.{Kind}
+pub use Rattle.resource_types.specs.declared.names.ClientKind.{ClientKind}
+pub use Rattle.resource_types.specs.declared.names.Controller.{Controller}
+pub use Rattle.resource_types.specs.declared.names.Name.{Name}
+pub use Rattle.resource_types.specs.declared.names.SlotKey.{SlotKey}
+pub use Rattle.resource_types.specs.declared.names.Actor.{Actor}
+pub use Rattle.resource_types.specs.declared.names.Key.{Key}
+pub use Rattle.resource_types.specs.declared.conditions.CondName.{CondName}
+pub use Rattle.resource_types.specs.declared.conditions.Truth.{Truth}
+pub use Rattle.resource_types.specs.declared.conditions.Condition.{Condition}
+pub use Rattle.resource_types.specs.declared.conditions.Part.{Part}
+pub use Rattle.resource_types.specs.declared.metadata.Owner.{Owner}
+pub use Rattle.resource_types.specs.declared.metadata.Meta.{Meta}
+pub use Rattle.resource_types.specs.declared.specification.PodSpec.{PodSpec}
+pub use Rattle.resource_types.specs.declared.specification.Template.{Template}
+pub use Rattle.resource_types.specs.declared.specification.Target.{Target}
+pub use Rattle.resource_types.specs.declared.specification.Row.{Row}
+pub use Rattle.resource_types.specs.declared.status.ObjectStatus.{ObjectStatus}
+pub use Rattle.resource_types.specs.declared.objects.Body.{Body}
+pub use Rattle.resource_types.specs.declared.objects.Object.{Object}
