@@ -3,11 +3,14 @@
 
 usage: tests/tables.py PROGRAM
 
-Each table is a list of cases: a method, a target, a body, the code of the reply and, for a refusal, its message. All cases of a
-table go to one world, in order, as one stream of requests. The expected texts are those of docs/API.md and docs/RESOURCES.md.
+A table of requests is a list of cases: a method, a target, a body, the code of the reply and, for a refusal, its message (for others a
+member of the reply, by its path, with its value, or bytes that the reply has). All cases of a table go to one world, in order, as
+one stream of requests. A table of runs has for each case the words, the input, the status and the output. The expected texts are
+those of docs/API.md, docs/RESOURCES.md and docs/FORMATS.md.
 """
 import copy
 import json
+import os
 import subprocess
 import sys
 
@@ -362,7 +365,162 @@ def merges():
         name = f"m{i}"
         yield "POST", f"{BLUE}/configurations", changed(manifest("Configuration", name), "spec.template.spec.x", old), 201, None
         for _ in range(2):
-            yield "PATCH", f"{BLUE}/configurations/{name}", {"spec": {"template": {"spec": {"x": patch}}}}, 200, ("x", new)
+            yield "PATCH", f"{BLUE}/configurations/{name}", {"spec": {"template": {"spec": {"x": patch}}}}, 200, \
+                ("spec.template.spec.x", new)
+
+
+# ---- defaults
+
+def defaults():
+    """What stands once a manifest with absent parts was sent: its spec."""
+    containers = [{"image": "img"}]
+    def pod(**spec):
+        return {"spec": {"containers": containers, **spec}}
+
+    pods = [(pod(), pod(containerConcurrency=0, timeoutSeconds=300)),
+            (pod(containerConcurrency=5), pod(containerConcurrency=5, timeoutSeconds=300)),
+            (pod(timeoutSeconds=0), pod(containerConcurrency=0, timeoutSeconds=0))]
+    whole = [{"latestRevision": True, "percent": 100}]
+    for i, (given, full) in enumerate(pods):
+        case = changed(manifest("Configuration", f"d{i}"), "spec", {"template": given})
+        yield "POST", f"{BLUE}/configurations", case, 201, ("spec", {"template": full})
+        case = changed(manifest("Service", f"d{i}"), "spec", {"template": given})
+        yield "POST", f"{BLUE}/services", case, 201, ("spec", {"template": full, "traffic": whole})
+    targets = [([{"configurationName": "c", "percent": 100}], [{"configurationName": "c", "latestRevision": True, "percent": 100}]),
+               ([{"revisionName": "v", "percent": 100}], [{"latestRevision": False, "percent": 100, "revisionName": "v"}]),
+               ([{"revisionName": "v", "percent": 100}, {"configurationName": "c", "tag": "t"}],
+                [{"latestRevision": False, "percent": 100, "revisionName": "v"},
+                 {"configurationName": "c", "latestRevision": True, "percent": 0, "tag": "t"}])]
+    for i, (given, full) in enumerate(targets):
+        case = changed(manifest("Route", f"d{i}"), "spec", {"traffic": given})
+        yield "POST", f"{BLUE}/routes", case, 201, ("spec", {"traffic": full})
+
+
+# ---- JSON, as a member of a pod spec
+
+VALUES = [("null", "null"), (" [ 1 , -2 ,true,\tfalse ] \n", "[1,-2,true,false]"), ("[]", "[]"), ("{ }", "{}"), ("0", "0"),
+          ("18446744073709551615", "18446744073709551615"), ("-1", "-1"), ("-9223372036854775808", "-9223372036854775808"),
+          (r'"\u00e9\n\u0001\/\""', "\"\u00e9\\n\\u0001/\\\"\""), ('{"b":1,"a":{"y":[],"x":null}}', '{"a":{"x":null,"y":[]},"b":1}'),
+          ('{"b":1,"a":2,"b":3}', '{"a":2,"b":3}'), ('{"a":1.5,"a":2}', '{"a":2}'), ('{"a":' + "[" * 33 + "]" * 33 + ',"a":2}', '{"a":2}')]
+REFUSED = ["", " ", "nul", "[1,]", "01", "+1", "1e400", "-0", "1.0", "1e2", "18446744073709551616", "[-9223372036854775809]",
+           '{"a":2,"a":1.5}', "[" * 128 + "]" * 128, "\ufeff1", b'"\xff"']
+
+
+def values():
+    unreadable = "the body is not readable JSON"
+    whole = json.dumps(changed(manifest("Configuration", "NAME"), "spec.template.spec.x", ["VALUE"]))
+    before, after = (part.encode() for part in whole.split('"VALUE"'))
+    for i, (given, shown) in enumerate(VALUES):
+        body = before.replace(b"NAME", b"v%d" % i) + given.encode() + after
+        yield "POST", f"{BLUE}/configurations", body, 201, b'"x":[' + shown.encode() + b"]"
+    for given in REFUSED:
+        given = given if isinstance(given, bytes) else given.encode()
+        yield "POST", f"{BLUE}/configurations", given, 400, unreadable
+        # An item that is missing leaves an array that can be read.
+        if given.strip():
+            yield "POST", f"{BLUE}/configurations", before + given + after, 400, unreadable
+    # Objects and arrays are at most 32 deep, and the value lies in five.
+    for levels, code in ((27, 201), (28, 400)):
+        body = before.replace(b"NAME", b"deep") + b"[" * levels + b"]" * levels + after
+        yield "POST", f"{BLUE}/configurations", body, code, unreadable if code == 400 else None
+
+
+# ---- runs: words, input, status and output
+
+def status_of(code, message, reason):
+    """The body of a refusal."""
+    fields = {"apiVersion": "v1", "code": code, "kind": "Status", "message": message, "reason": reason, "status": "Failure"}
+    return json.dumps(fields, separators=(",", ":")).encode()
+
+
+def reply_of(line, body, *fields, method="GET"):
+    """A reply, by its status line without the version, its body and its further fields."""
+    head = [f"HTTP/1.1 {line}", "Content-Type: application/json", f"Content-Length: {len(body)}", *fields, "", ""]
+    return "\r\n".join(head).encode() + (b"" if method == "HEAD" else body)
+
+
+FAULTS = {"Malformed": ("400 Bad Request", "the head is malformed", "BadRequest"),
+          "HeadTooLarge": ("431 Request Header Fields Too Large", "the head is too large", "HeadTooLarge"),
+          "BadLength": ("400 Bad Request", "the length of the body is malformed", "BadRequest"),
+          "TransferEncoding": ("501 Not Implemented", "transfer encodings are not supported", "NotImplemented"),
+          "BodyTooLarge": ("413 Payload Too Large", "the body is too large", "RequestEntityTooLarge")}
+CLOSE = "Connection: close"
+NO_PATH = status_of(404, "no such path", "NotFound")
+NO_METHOD = status_of(405, "no such method on this path", "MethodNotAllowed")
+
+
+def bad_heads():
+    post = "POST / HTTP/1.1\r\n"
+    get = "GET / HTTP/1.1\r\n"
+    for head, name in (("hello\r\n\r\n", "Malformed"), ("GET / HTTP/2.0\r\n\r\n", "Malformed"),
+                       (f"{post}Content-Length: 1\r\nContent-Length: 1\r\n\r\nx", "BadLength"),
+                       ("HEAD / HTTP/1.1\r\nContent-Length:\r\n\r\n", "BadLength"), (f"{post}Content-Length: +1\r\n\r\nx", "BadLength"),
+                       (f"{post}Content-Length: 1, 1\r\nTransfer-Encoding: chunked\r\n\r\nx", "BadLength"),
+                       (f"{post}Transfer-Encoding: chunked\r\nContent-Length: 70000\r\n\r\n", "TransferEncoding"),
+                       (f"{post}Content-Length: 65537\r\n\r\n", "BodyTooLarge"),
+                       (f"{post}Content-Length: 100000000000000000000000000000\r\n\r\n", "BodyTooLarge"),
+                       ("\n" * 8192, "HeadTooLarge"), ("x" * 8192, "HeadTooLarge"), (get + "F: v\r\n" * 65 + "\r\n", "HeadTooLarge")):
+        line, message, reason = FAULTS[name]
+        refusal = reply_of(line, status_of(int(line[:3]), message, reason), CLOSE)
+        yield ["replay"], head, 7, refusal
+        # What stands before it is answered.
+        yield ["replay"], f"{get}\r\n{head}", 7, reply_of("404 Not Found", NO_PATH) + refusal
+
+
+def streams():
+    get = "GET / HTTP/1.1\r\n"
+    answer = reply_of("404 Not Found", NO_PATH)
+    closed = reply_of("404 Not Found", NO_PATH, CLOSE)
+    long = "POST / HTTP/1.1\r\nContent-Length: 65536\r\n\r\n"
+    for text, status, out in (("", 0, b""), ("\r\n\n", 0, b""), ("\r", 5, b""), ("GET /a HTTP/1.1\r\n", 5, b""),
+                              ("POST /a HTTP/1.1\r\nContent-Length: 3\r\n\r\nab", 5, b""),
+                              ("\r\nPOST /a HTTP/1.1\r\ncontent-length: \t003 \r\n\r\nabcHEAD /b HTTP/1.1\n\n", 0,
+                               answer + reply_of("404 Not Found", NO_PATH, method="HEAD")),
+                              ("GET /a HTTP/1.0\r\n\r\nhello\r\n\r\n", 0, closed),
+                              ("GET /a HTTP/1.1\r\nConnection: te\r\nConnection: keep-alive , Close\r\n\r\n" + get, 0, closed),
+                              ("\n" * 8191, 0, b""), ("x" * 8191, 5, b""), (get + "F: v\r\n" * 64 + "\r\n", 0, answer),
+                              (long + "x" * 65536, 0, answer), (long + "x" * 65535, 5, b"")):
+        yield ["replay"], text, status, out
+    for path, allow in ((f"{BLUE}/routes", "GET, POST"), (f"{BLUE}/routes/x", "GET, PUT, PATCH, DELETE"), (f"{BLUE}/revisions", "GET"),
+                        (f"{BLUE}/revisions/x", "GET, DELETE"), ("/control/clock", "POST"), ("/control/tables", "GET")):
+        out = reply_of("405 Method Not Allowed", NO_METHOD, f"Allow: {allow}", CLOSE)
+        yield ["replay"], f"OPTIONS {path} HTTP/1.0\r\n\r\n", 0, out
+
+
+def checks():
+    """A manifest by itself. The run that shows one with its defaults is stored in tests/runs."""
+    def refused(message, code=400, reason="BadRequest"):
+        return status_of(code, message, reason) + b"\n"
+
+    route = changed(changed(manifest("Route", "r"), "apiVersion", "v1"), "spec", {})
+    for body, message in (("{", "the body is not readable JSON"), ("[]", "wrong shape at body"),
+                          ('{"apiVersion":7,"kind":"Pod"}', "wrong shape at apiVersion"), ('{"apiVersion":"v1","kind":7}', "wrong shape at kind"),
+                          # The kind comes before the rest of the shape, and this before the version of the API.
+                          ('{"apiVersion":"v1","kind":"Pod"}', "kind does not match the path"),
+                          ('{"apiVersion":"v1","kind":"Route"}', "wrong shape at metadata"),
+                          (json.dumps(route), "apiVersion does not match the path"),
+                          (json.dumps(changed(route, "metadata.namespace", "-")), "apiVersion does not match the path"),
+                          (" " * 65536, "the body is not readable JSON")):
+        yield ["check"], body, 8, refused(message)
+    yield ["check"], " " * 65537, 8, refused("the body is too large", 413, "RequestEntityTooLarge")
+
+
+def words():
+    for line in ([], ["walk"], ["Replay"], ["--help"], ["replay", "x"], ["replay", ""], ["replay", "--"], ["replay", "--help"],
+                 ["check", "-"], ["check", "-h"], ["replay", "check"]):
+        yield line, "GET / HTTP/1.1\r\n\r\n", 2, b""
+
+
+def ends(program):
+    """Real ends that fail: a folder can't be read, and nothing fits on a full device. Each run, with the status that it had and is due."""
+    for word in ("replay", "check"):
+        folder = os.open("/", os.O_RDONLY)
+        run = subprocess.run([program, word], stdin=folder, capture_output=True, check=False, timeout=60)
+        os.close(folder)
+        yield f"{word} of a folder", run.returncode, 3
+        with open("/dev/full", "wb") as full:
+            run = subprocess.run([program, word], input=b"GET / HTTP/1.1\r\n\r\n", stdout=full, stderr=subprocess.PIPE, check=False, timeout=60)
+            yield f"{word} to a full device", run.returncode, 4
 
 
 # ---- running
@@ -370,8 +528,8 @@ def merges():
 def stream(cases):
     parts = []
     for method, path, body, _, _ in cases:
-        data = body if isinstance(body, str) else json.dumps(body, separators=(",", ":"))
-        data = data.encode()
+        data = body if isinstance(body, (str, bytes)) else json.dumps(body, separators=(",", ":"))
+        data = data if isinstance(data, bytes) else data.encode()
         parts.append(f"{method} {path} HTTP/1.1\r\nHost: x\r\nContent-Length: {len(data)}\r\n\r\n".encode() + data)
     return b"".join(parts)
 
@@ -401,10 +559,14 @@ def differs(case, reply):
         return "Allow stands exactly in a reply of code 405"
     if method == "HEAD" or message is None:
         return None
+    if isinstance(message, bytes):
+        return None if message in body else f"{message!r} isn't in {body!r}"
     said = json.loads(body)
     if isinstance(message, tuple):
-        member, value = message
-        found = said["spec"]["template"]["spec"].get(member)
+        path, value = message
+        found = said
+        for step in steps_of(path):
+            found = found[step]
         return None if found == value else f"{found!r}, not {value!r}"
     text = said.get("message", "")
     if message.startswith("!"):
@@ -412,27 +574,55 @@ def differs(case, reply):
     return None if text == message else f"message {text!r}, not {message!r}"
 
 
+def request_faults(program, table):
+    """How many cases a table of requests has, and what is wrong with them."""
+    cases = list(table())
+    run = subprocess.run([program, "replay"], input=stream(cases), capture_output=True, check=False, timeout=60)
+    wrong = []
+    if run.returncode != 0:
+        wrong.append(f"status {run.returncode}: {run.stderr.decode()}")
+    try:
+        found = replies(run.stdout, cases)
+    except (ValueError, IndexError) as fault:
+        wrong.append(f"the output isn't a reply for each case: {fault}")
+        found = []
+    for case, reply in zip(cases, found):
+        fault = differs(case, reply)
+        if fault:
+            wrong.append(f"{case[0]} {case[1]} {str(case[2])[:300]}: {fault}")
+    return len(cases), wrong
+
+
+def run_faults(program, table):
+    """The same of a table of runs."""
+    count, wrong = 0, []
+    for line, given, status, out in table():
+        count += 1
+        run = subprocess.run([program, *line], input=given.encode(), capture_output=True, check=False, timeout=60)
+        if (run.returncode, run.stdout) != (status, out):
+            wrong.append(f"{line} {given[:100]!r}: {run.returncode} {run.stdout[:300]!r}, not {status} {out[:300]!r}")
+    return count, wrong
+
+
+def end_faults(program, table):
+    """The same of runs over ends that fail."""
+    found = list(table(program))
+    return len(found), [f"{name}: {status}, not {due}" for name, status, due in found if status != due]
+
+
+TABLES = ((request_faults, (shapes, rule_cases, paths, queries, calls, merges, defaults, values)),
+          (run_faults, (bad_heads, streams, checks, words)), (end_faults, (ends,)))
+
+
 def main(program):
     failed = 0
-    for table in (shapes, rule_cases, paths, queries, calls, merges):
-        cases = list(table())
-        run = subprocess.run([program, "replay"], input=stream(cases), capture_output=True, check=False, timeout=60)
-        wrong = []
-        if run.returncode != 0:
-            wrong.append(f"status {run.returncode}: {run.stderr.decode()}")
-        try:
-            found = replies(run.stdout, cases)
-        except (ValueError, IndexError) as fault:
-            wrong.append(f"the output isn't a reply for each case: {fault}")
-            found = []
-        for case, reply in zip(cases, found):
-            fault = differs(case, reply)
-            if fault:
-                wrong.append(f"{case[0]} {case[1]} {json.dumps(case[2])[:300]}: {fault}")
-        for line in wrong[:20]:
-            print(f"{table.__name__}: {line}")
-        print(f"{table.__name__}: {len(cases)} cases, {len(wrong)} wrong")
-        failed += len(wrong)
+    for faults, tables in TABLES:
+        for table in tables:
+            count, wrong = faults(program, table)
+            for line in wrong[:20]:
+                print(f"{table.__name__}: {line}")
+            print(f"{table.__name__}: {count} cases, {len(wrong)} wrong")
+            failed += len(wrong)
     return 1 if failed else 0
 
 

@@ -1,4 +1,5 @@
-pub mod Kept
+pub mod Patchable
+pub mod Asking
 pub mod Made
 pub mod Patches
 pub mod Versioned

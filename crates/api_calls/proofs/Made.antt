@@ -5,7 +5,7 @@ use Rattle.resource_types.specs.declared.names.Kind.{Kind}
 use Rattle.resource_types.specs.declared.names.ClientKind.{ClientKind}
 use Rattle.resource_types.specs.declared.objects.Object.{Object}
 use Rattle.resource_types.specs.declared.manifests.Manifest.{Manifest}
-use Rattle.resource_types.specs.Lookups.{Log}
+use Rattle.resource_types.specs.Lookups.{Journal}
 use Rattle.resource_types.specs.Manifests.{object_kind}
 use Rattle.manifest_intake.specs.Intake.{create}
 use Rattle.api_replies.specs.declared.outcome.Outcome.{Outcome}
@@ -16,7 +16,7 @@ use Rattle.api_calls.specs.Calls.{asked, creating}
 abbrev made : Outcome → Answer
 made o = Ok o
 
-pub comes_made : (journal : Log) (moment : ℕ) (kind : ClientKind) (space s n : List ℕ) (body : Option Json) (m : Manifest) (k : Kind) (found : Option Object) (o : Outcome)
+pub comes_made : (journal : Journal) (moment : ℕ) (kind : ClientKind) (space s n : List ℕ) (body : Option Json) (m : Manifest) (k : Kind) (found : Option Object) (o : Outcome)
     → asked (create space) kind body ≡ Ok m → k ≡ object_kind kind → s ≡ space → n ≡ m.name → found ≡ standing journal k s n → not_there k n found ≡ Ok tt → o ≡ makes journal moment kind s n m
     → creating journal moment kind space body ≡ Ok o
 unfolding creating

@@ -4,7 +4,7 @@ use Rattle.json_tree.specs.declared.value.Json.{Json}
 use Rattle.resource_types.specs.declared.names.ClientKind.{ClientKind}
 use Rattle.resource_types.specs.declared.objects.Object.{Object}
 use Rattle.resource_types.specs.declared.manifests.Manifest.{Manifest}
-use Rattle.resource_types.specs.Lookups.{Log}
+use Rattle.resource_types.specs.Lookups.{Journal}
 use Rattle.manifest_intake.specs.Intake.{replace, accepted}
 use Rattle.api_replies.specs.declared.outcome.Outcome.{Outcome}
 use Rattle.api_replies.specs.declared.outcome.Stop.{Stop}
@@ -13,7 +13,7 @@ use Rattle.api_objects.specs.Puts.{taken}
 use Rattle.api_calls.specs.Calls.{agreeing, is_absent_or_fresh, patching_over}
 
 -- the patched document is put over what stands
-pub comes_over : (result : Result Outcome Stop) (journal : Log) (moment : ℕ) (kind : ClientKind) (space name s n : List ℕ) (old : Object) (patched : Json) (m : Manifest) (b : Bool)
+pub comes_over : (result : Result Outcome Stop) (journal : Journal) (moment : ℕ) (kind : ClientKind) (space name s n : List ℕ) (old : Object) (patched : Json) (m : Manifest) (b : Bool)
     → s ≡ space → n ≡ name → taken (accepted (replace s n) kind patched) ≡ Ok m → b ≡ is_absent_or_fresh old m.version
     → Comes result (agreeing journal moment kind space name old b m) → Comes result (patching_over journal moment kind space name old patched)
 unfolding patching_over

@@ -13,7 +13,7 @@ use Rattle.resource_types.specs.declared.names.Kind.{Kind}
 use Rattle.resource_types.specs.declared.names.ClientKind.{ClientKind}
 use Rattle.resource_types.specs.declared.objects.Object.{Object}
 use Rattle.resource_types.specs.declared.manifests.Manifest.{Manifest}
-use Rattle.resource_types.specs.Lookups.{Log}
+use Rattle.resource_types.specs.Lookups.{Journal}
 use Rattle.resource_types.specs.Manifests.{object_kind}
 use Rattle.resource_codec.specs.declared.fields.Field.{Field}
 use Rattle.resource_codec.specs.declared.fields.Field.TheVariants as field
@@ -216,14 +216,14 @@ decimal_some n = digits_some 63 10 false n []
 -- ---- the put
 
 -- what a manifest that agrees with the object that stands comes to, it comes to with another version too, where that is found fresh
-agrees : (journal : Log) (moment : ℕ) (kind : ClientKind) (space name v : List ℕ) (old : Object) (is_fresh : Bool) (m : Manifest) (o : Outcome)
+agrees : (journal : Journal) (moment : ℕ) (kind : ClientKind) (space name v : List ℕ) (old : Object) (is_fresh : Bool) (m : Manifest) (o : Outcome)
     → agreeing journal moment kind space name old is_fresh m ≡ Ok o → agreeing journal moment kind space name old true (record m { version = v }) ≡ Ok o
 unfolding agreeing object_put
 agrees journal moment kind space name v old true m o e = e
 agrees journal moment kind space name v old false m o e = absurd cc
 
 -- a document with the version that stands replaces what stands, where the document takes its place
-puts_versioned : (journal : Log) (moment : ℕ) (kind : ClientKind) (space name : List ℕ) (old : Object) (document : Json) (is_fresh : Bool) (m : Manifest) (o : Outcome)
+puts_versioned : (journal : Journal) (moment : ℕ) (kind : ClientKind) (space name : List ℕ) (old : Object) (document : Json) (is_fresh : Bool) (m : Manifest) (o : Outcome)
     → standing journal (object_kind kind) space name ≡ Some old → accepted (replace space name) kind document ≡ Ok m → agreeing journal moment kind space name old is_fresh m ≡ Ok o
     → replacing journal moment kind space name (Some (versioned (version_text old) document)) ≡ Ok o
 unfolding asked replacing replacing_with
@@ -233,7 +233,7 @@ puts_versioned journal moment kind space name old document is_fresh m o stands e
     (agrees journal moment kind space name v old is_fresh m o h)
 
 -- the patch of an object that stands is such a put
-over_is : (journal : Log) (moment : ℕ) (kind : ClientKind) (space name : List ℕ) (patch : Json) (old : Object) (o : Outcome)
+over_is : (journal : Journal) (moment : ℕ) (kind : ClientKind) (space name : List ℕ) (patch : Json) (old : Object) (o : Outcome)
     → standing journal (object_kind kind) space name ≡ Some old → patching_over journal moment kind space name old (patched_document old patch) ≡ Ok o
     → IsPutOf journal moment kind space name (Some patch) o
 unfolding patching_over
@@ -254,7 +254,7 @@ there_ok kind name None old e = absurd cc
 there_ok kind name (Some o) old e = cc
 
 -- the patch of what stands, if anything does
-with_is : (journal : Log) (moment : ℕ) (kind : ClientKind) (space name : List ℕ) (patch : Json) (o : Outcome)
+with_is : (journal : Journal) (moment : ℕ) (kind : ClientKind) (space name : List ℕ) (patch : Json) (o : Outcome)
     → patching_with journal moment kind space name patch ≡ Ok o → IsPutOf journal moment kind space name (Some patch) o
 unfolding patching_with
 with_is journal moment kind space name patch o e =
@@ -267,13 +267,13 @@ readable_ok None patch e = absurd cc
 readable_ok (Some json) patch e = cc
 
 -- the same of what a call answers, where it isn't refused
-put_is : (result : Result Outcome Stop) (journal : Log) (moment : ℕ) (kind : ClientKind) (space name : List ℕ) (patch : Json)
+put_is : (result : Result Outcome Stop) (journal : Journal) (moment : ℕ) (kind : ClientKind) (space name : List ℕ) (patch : Json)
     → Comes result (patching_with journal moment kind space name patch) → IfOk result (λ o. IsPutOf journal moment kind space name (Some patch) o)
 put_is (Ok o) journal moment kind space name patch e = with_is journal moment kind space name patch o e
 put_is (Err stop) journal moment kind space name patch e = tt
 
 -- A patch that isn't refused is the put of what it makes of the document that stands, with the version that stands.
-pub patches_as_put : (result : Result Outcome Stop) (journal : Log) (moment : ℕ) (kind : ClientKind) (space name s n : List ℕ) (body : Option Json) (patch : Json)
+pub patches_as_put : (result : Result Outcome Stop) (journal : Journal) (moment : ℕ) (kind : ClientKind) (space name s n : List ℕ) (body : Option Json) (patch : Json)
     → s ≡ space → n ≡ name → readable body ≡ Ok patch → Comes result (patching_with journal moment kind s n patch)
     → IfOk result (λ o. IsPutOf journal moment kind space name body o)
 patches_as_put result journal moment kind space name s n body patch es en e h =

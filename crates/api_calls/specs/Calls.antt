@@ -11,7 +11,7 @@ use Rattle.resource_types.specs.declared.names.Kind.TheVariants as kind
 use Rattle.resource_types.specs.declared.names.ClientKind.{ClientKind}
 use Rattle.resource_types.specs.declared.objects.Object.{Object}
 use Rattle.resource_types.specs.declared.manifests.Manifest.{Manifest}
-use Rattle.resource_types.specs.Lookups.{Log}
+use Rattle.resource_types.specs.Lookups.{Journal}
 use Rattle.resource_types.specs.Manifests.{manifest_of}
 use Rattle.resource_codec.specs.Reading.{◌>>=◌}
 use Rattle.resource_codec.specs.Written.{written}
@@ -43,20 +43,20 @@ is_removable kind.Route = true
 is_removable other = false
 
 -- a list
-unfoldable pub listing : Log → Kind → List ℕ → Answer
+unfoldable pub listing : Journal → Kind → List ℕ → Answer
 listing journal kind space = do
   served ← keeps (is_served kind) NoSuchPath
   Ok (only (reply_of 200 (data_of (list_of journal kind (Some space)))))
 
 -- a poll
-unfoldable pub polling : Log → Kind → List ℕ → ℕ → Answer
+unfoldable pub polling : Journal → Kind → List ℕ → ℕ → Answer
 polling journal kind space after = do
   served ← keeps (is_served kind) NoSuchPath
   within ← keeps (nat_le after (length journal)) (BeyondNewest after (length journal))
   Ok (only (reply_of 200 (data_of (poll_of journal kind (Some space) after))))
 
 -- one object
-unfoldable pub reading : Log → Kind → List ℕ → List ℕ → Answer
+unfoldable pub reading : Journal → Kind → List ℕ → List ℕ → Answer
 reading journal kind space name = do
   served ← keeps (is_served kind) NoSuchPath
   o ← there kind name (standing journal kind space name)
@@ -69,21 +69,21 @@ asked purpose kind body = do
   taken (accepted purpose kind json)
 
 -- an object is made: the manifest, and then what stands
-unfoldable pub creating : Log → ℕ → ClientKind → List ℕ → Option Json → Answer
+unfoldable pub creating : Journal → ℕ → ClientKind → List ℕ → Option Json → Answer
 creating journal moment kind space body = do
   m ← asked (create space) kind body
   free ← not_there (object_kind kind) m.name (standing journal (object_kind kind) space m.name)
   Ok (makes journal moment kind space m.name m)
 
 -- a manifest is put over the object that stands: the version that stands, the template under its name
-unfoldable pub agreeing : Log → ℕ → ClientKind → List ℕ → List ℕ → Object → Bool → Manifest → Answer
+unfoldable pub agreeing : Journal → ℕ → ClientKind → List ℕ → List ℕ → Object → Bool → Manifest → Answer
 agreeing journal moment kind space name old is_fresh m = do
   fresh ← keeps is_fresh (conflict (object_kind kind) old)
   kept ← changed_well (change_fault old m)
   Ok (replaces journal moment kind space name old m)
 
 -- a manifest replaces an object: what stands, and what it must agree with
-unfoldable pub replacing_with : Log → ℕ → ClientKind → List ℕ → List ℕ → Manifest → Answer
+unfoldable pub replacing_with : Journal → ℕ → ClientKind → List ℕ → List ℕ → Manifest → Answer
 replacing_with journal moment kind space name m = do
   old ← there (object_kind kind) name (standing journal (object_kind kind) space name)
   agreeing journal moment kind space name old (is_version_of old m.version) m
@@ -93,7 +93,7 @@ abbrev pub gives_version : Manifest → Bool
 gives_version m = not (is_empty m.version)
 
 -- an object is replaced: the manifest, its version, and then what stands
-unfoldable pub replacing : Log → ℕ → ClientKind → List ℕ → List ℕ → Option Json → Answer
+unfoldable pub replacing : Journal → ℕ → ClientKind → List ℕ → List ℕ → Option Json → Answer
 replacing journal moment kind space name body = do
   m ← asked (replace space name) kind body
   given ← keeps (gives_version m) VersionMissing
@@ -112,19 +112,19 @@ abbrev pub is_absent_or_fresh : Object → List ℕ → Bool
 is_absent_or_fresh old given = is_empty given || is_version_of old given
 
 -- the patched document is put over what stands, as in a replacement, but its version may be absent
-unfoldable pub patching_over : Log → ℕ → ClientKind → List ℕ → List ℕ → Object → Json → Answer
+unfoldable pub patching_over : Journal → ℕ → ClientKind → List ℕ → List ℕ → Object → Json → Answer
 patching_over journal moment kind space name old patched = do
   m ← taken (accepted (replace space name) kind patched)
   agreeing journal moment kind space name old (is_absent_or_fresh old m.version) m
 
 -- a patch of what stands, if anything does
-unfoldable pub patching_with : Log → ℕ → ClientKind → List ℕ → List ℕ → Json → Answer
+unfoldable pub patching_with : Journal → ℕ → ClientKind → List ℕ → List ℕ → Json → Answer
 patching_with journal moment kind space name patch = do
   old ← there (object_kind kind) name (standing journal (object_kind kind) space name)
   patching_over journal moment kind space name old (patched_document old patch)
 
 -- an object is patched: the body, what stands, and then the patched document
-unfoldable pub patching : Log → ℕ → ClientKind → List ℕ → List ℕ → Option Json → Answer
+unfoldable pub patching : Journal → ℕ → ClientKind → List ℕ → List ℕ → Option Json → Answer
 patching journal moment kind space name body = do
   patch ← readable body
   patching_with journal moment kind space name patch
@@ -134,7 +134,7 @@ unfoldable pub removes : Object → Outcome
 removes o = record { reply = removed; plan = Some (plan_of o.key (expect.At o.meta.stamp.version) change.Remove) }
 
 -- an object is removed
-unfoldable pub removing : Log → Kind → List ℕ → List ℕ → Answer
+unfoldable pub removing : Journal → Kind → List ℕ → List ℕ → Answer
 removing journal kind space name = do
   removable ← keeps (is_removable kind) NoSuchPath
   o ← there kind name (standing journal kind space name)

@@ -6,7 +6,7 @@ use Rattle.json_tree.specs.declared.value.Json.TheOpen.{Json-F}
 use Rattle.json_tree.specs.Tree.{put_entry}
 use Rattle.resource_types.specs.declared.names.ClientKind.{ClientKind}
 use Rattle.resource_types.specs.declared.objects.Object.{Object}
-use Rattle.resource_types.specs.Lookups.{Log}
+use Rattle.resource_types.specs.Lookups.{Journal}
 use Rattle.resource_types.specs.Manifests.{object_kind}
 use Rattle.resource_codec.specs.Reading.{Member, under}
 use Rattle.resource_codec.specs.Written.{object_of}
@@ -30,7 +30,7 @@ versioned version document = versioned_as version (out-Json document) document
 
 -- The reply and the write are those of a put over what stands, at the same moment: its body is what the patch makes of the document that
 -- stands, with the version that stands.
-pub record IsPutOf (journal : Log) (moment : ℕ) (kind : ClientKind) (space name : List ℕ) (body : Option Json) (outcome : Outcome) : Type 0 where
+pub record IsPutOf (journal : Journal) (moment : ℕ) (kind : ClientKind) (space name : List ℕ) (body : Option Json) (outcome : Outcome) : Type 0 where
   pub old : Object
   pub patch : Json
   pub given : body ≡ Some patch

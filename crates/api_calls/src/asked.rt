@@ -3,7 +3,8 @@ ghost use Rattle.std.specs.Prelude.{IfOk};
 ghost use Rattle.std.specs.Option.{ForSome};
 ghost use Rattle.manifest_intake.specs.Seen.{purpose_seen};
 ghost use Rattle.api_calls.specs.Calls as spec;
-ghost use Rattle.api_replies.specs.Kept.{CanBePut, IsReadable};
+ghost use Rattle.manifest_intake.specs.Bodies.{IsReadable};
+ghost use Rattle.manifest_intake.specs.Good.{IsAcceptedFor};
 ghost use Rattle.api_replies.specs.Outcomes.{Comes};
 
 use api_objects::{readable, taken};
@@ -23,7 +24,7 @@ pub(crate) fn manifest_in(
 ) -> Result<Manifest, Stop>
     requires { ForSome body IsReadable }
     ensures value { Comes result (spec.asked (purpose_seen purpose.entry) kind body) }
-    ensures kept { IfOk result (CanBePut kind) }
+    ensures accepted { IfOk result (IsAcceptedFor (purpose_seen purpose.entry) kind) }
 {
     let json = readable(body)?;
     taken(alloc, purpose, kind, &json)

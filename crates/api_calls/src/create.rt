@@ -1,9 +1,11 @@
 //! Making an object.
-ghost use Rattle.std.specs.Prelude.{◌≡◌, ◌<◌, ◌-◌, ◌^◌, length, IfOk};
+ghost use Rattle.std.specs.Prelude.{◌≡◌, ◌<◌, ◌-◌, ◌^◌, length, IsTrue, IfOk};
 ghost use Rattle.std.specs.Option.{option_copied, ForSome};
 ghost use Rattle.api_calls.specs.Calls as spec;
 ghost use Rattle.api_objects.specs.Puts.{not_there};
-ghost use Rattle.api_replies.specs.Kept.{AreKept, IsReadable};
+ghost use Rattle.serve_names.specs.Labels.{is_label_of};
+ghost use Rattle.resource_codec.specs.Storable.{AreStorable};
+ghost use Rattle.manifest_intake.specs.Bodies.{IsReadable};
 ghost use Rattle.api_replies.specs.Outcomes.{Comes, IsFit};
 
 use crate::asked::manifest_in;
@@ -13,7 +15,7 @@ use json_tree::{Json, Text};
 use manifest_intake::Purpose;
 use resource_types::{ClientKind, Kind, Object};
 use std::alloc::Global;
-use version_store::store::Store;
+use version_store::Store;
 
 /// Nothing where no object is found, and else that one of the name stands.
 fn not_there(alloc: Global, kind: Kind, name: &Text, found: Option<&Object>) -> Result<(), Stop>
@@ -40,11 +42,12 @@ pub fn creating(
     space: &str,
     body: Option<Json>,
 ) -> Result<Outcome, Stop>
-    requires kept { AreKept store.now.entries }
+    requires storable { AreStorable store.now.entries }
     requires room { length store.now.entries < 2 ^ 64 - 1 }
+    requires label { IsTrue (is_label_of space.now 63) }
     requires body { ForSome body IsReadable }
     ensures answer { Comes result (spec.creating store.now.entries moment kind space.now body) }
-    ensures fits { IfOk result IsFit }
+    ensures fits { IfOk result (IsFit store.now.entries) }
 {
     let manifest = manifest_in(alloc, Purpose::Create { space }, kind, body)?;
     let name = manifest.name.copy(alloc)?;

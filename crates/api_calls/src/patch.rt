@@ -1,9 +1,13 @@
 //! Patching an object (RFC 7396).
-ghost use Rattle.std.specs.Prelude.{◌≡◌, ◌<◌, ◌-◌, ◌^◌, length, IfOk};
+ghost use Rattle.std.specs.Prelude.{◌≡◌, ◌<◌, ◌-◌, ◌^◌, length, IsTrue, IfOk};
 ghost use Rattle.std.specs.Option.{ForSome};
 ghost use Rattle.api_calls.specs.Calls as spec;
 ghost use Rattle.api_calls.specs.Versioned.{IsPutOf};
-ghost use Rattle.api_replies.specs.Kept.{AreKept, IsReadable, IsPatchable};
+ghost use Rattle.serve_names.specs.Labels.{is_label_of};
+ghost use Rattle.resource_types.specs.Manifests.{object_kind};
+ghost use Rattle.resource_codec.specs.Storable.{AreStorable};
+ghost use Rattle.manifest_intake.specs.Bodies.{IsReadable};
+ghost use Rattle.api_objects.specs.Puts.{StandsAs, IsPatchable};
 ghost use Rattle.api_replies.specs.Outcomes.{Comes, IsFit};
 
 use crate::replace::agreeing;
@@ -15,7 +19,7 @@ use merge_patch::merge;
 use resource_codec::encode_manifest;
 use resource_types::{ClientKind, Object, manifest_of};
 use std::alloc::{AllocError, Global};
-use version_store::store::Store;
+use version_store::Store;
 
 /// The document of an object, which a patch changes: its manifest without a version.
 fn document_of(alloc: Global, old: &Object) -> Result<Json, AllocError>
@@ -57,10 +61,11 @@ fn patch_over(
     patched: &Json,
 ) -> Result<Outcome, Stop>
     requires room { length store.now.entries < 2 ^ 64 - 1 }
-    requires old { IsPatchable old.now }
+    requires label { IsTrue (is_label_of place.space.now 63) }
+    requires old { StandsAs store.now.entries (object_kind place.kind) place.space.now place.name.now old.now }
     requires patched { IsReadable patched.now }
     ensures answer { Comes result (spec.patching_over store.now.entries moment place.entry.kind place.entry.space.now place.entry.name.now old.now patched.now) }
-    ensures fits { IfOk result IsFit }
+    ensures fits { IfOk result (IsFit store.now.entries) }
 {
     let purpose = Purpose::Replace {
         space: place.space.as_str(),
@@ -72,7 +77,7 @@ fn patch_over(
 }
 
 /// Changes the object that stands as a patch says.
-#[tactic(auto, using(crate::proofs::Kept::patchable), unfolding(crate::specs::Calls::patching_with))]
+#[tactic(auto, unfolding(crate::specs::Calls::patching_with))]
 fn patch_standing(
     alloc: Global,
     store: &Store<Object>,
@@ -80,11 +85,12 @@ fn patch_standing(
     place: Place<'_>,
     patch: &Json,
 ) -> Result<Outcome, Stop>
-    requires kept { AreKept store.now.entries }
+    requires storable { AreStorable store.now.entries }
     requires room { length store.now.entries < 2 ^ 64 - 1 }
+    requires label { IsTrue (is_label_of place.space.now 63) }
     requires patch { IsReadable patch.now }
     ensures answer { Comes result (spec.patching_with store.now.entries moment place.entry.kind place.entry.space.now place.entry.name.now patch.now) }
-    ensures fits { IfOk result IsFit }
+    ensures fits { IfOk result (IsFit store.now.entries) }
 {
     let of_kind = place.kind.kind();
     let old = there(alloc, store, of_kind, place.space, place.name)?;
@@ -106,12 +112,13 @@ pub fn patching(
     name: &str,
     body: Option<Json>,
 ) -> Result<Outcome, Stop>
-    requires kept { AreKept store.now.entries }
+    requires storable { AreStorable store.now.entries }
     requires room { length store.now.entries < 2 ^ 64 - 1 }
+    requires label { IsTrue (is_label_of space.now 63) }
     requires body { ForSome body IsReadable }
     ensures answer { Comes result (spec.patching store.now.entries moment kind space.now name.now body) }
     ensures as_put { IfOk result (λ o. IsPutOf store.now.entries moment kind space.now name.now body o) }
-    ensures fits { IfOk result IsFit }
+    ensures fits { IfOk result (IsFit store.now.entries) }
 {
     let patch = readable(body)?;
     let space = Text::new(alloc, space)?;

@@ -1,7 +1,7 @@
 //! Lists, polls, and single objects.
 ghost use Rattle.std.specs.Prelude.{◌≡◌, length, IfOk};
 ghost use Rattle.api_calls.specs.Calls as spec;
-ghost use Rattle.api_replies.specs.Kept.{AreKept};
+ghost use Rattle.resource_codec.specs.Storable.{AreStorable};
 ghost use Rattle.api_replies.specs.Outcomes.{Comes, IsFit};
 
 use api_objects::there;
@@ -10,7 +10,7 @@ use json_tree::Text;
 use resource_codec::{list_of, poll_json};
 use resource_types::{Kind, Object};
 use std::alloc::Global;
-use version_store::store::Store;
+use version_store::Store;
 
 /// Whether the kind has paths of its own.
 fn is_served(kind: Kind) -> bool
@@ -30,9 +30,9 @@ pub fn listing(
     kind: Kind,
     space: &str,
 ) -> Result<Outcome, Stop>
-    requires { AreKept store.now.entries }
+    requires { AreStorable store.now.entries }
     ensures answer { Comes result (spec.listing store.now.entries kind space.now) }
-    ensures fits { IfOk result IsFit }
+    ensures fits { IfOk result (IsFit store.now.entries) }
 {
     keep(is_served(kind), Refusal::NoSuchPath)?;
     let space = Text::new(alloc, space)?;
@@ -50,9 +50,9 @@ pub fn polling(
     space: &str,
     after: u64,
 ) -> Result<Outcome, Stop>
-    requires { AreKept store.now.entries }
+    requires { AreStorable store.now.entries }
     ensures answer { Comes result (spec.polling store.now.entries kind space.now after) }
-    ensures fits { IfOk result IsFit }
+    ensures fits { IfOk result (IsFit store.now.entries) }
 {
     keep(is_served(kind), Refusal::NoSuchPath)?;
     let newest = store.version();
@@ -71,9 +71,9 @@ pub fn reading(
     space: &str,
     name: &str,
 ) -> Result<Outcome, Stop>
-    requires { AreKept store.now.entries }
+    requires { AreStorable store.now.entries }
     ensures answer { Comes result (spec.reading store.now.entries kind space.now name.now) }
-    ensures fits { IfOk result IsFit }
+    ensures fits { IfOk result (IsFit store.now.entries) }
 {
     keep(is_served(kind), Refusal::NoSuchPath)?;
     let space = Text::new(alloc, space)?;

@@ -1,16 +1,16 @@
 //! Removing an object.
 ghost use Rattle.std.specs.Prelude.{◌≡◌, IfOk};
 ghost use Rattle.api_calls.specs.Calls as spec;
-ghost use Rattle.api_replies.specs.Kept.{AreKept};
-ghost use Rattle.api_replies.specs.Outcomes.{Comes, IsFit};
+ghost use Rattle.resource_types.specs.Lookups.{Journal, state};
+ghost use Rattle.resource_codec.specs.Storable.{AreStorable};
+ghost use Rattle.api_replies.specs.Outcomes.{Comes, IsClientRemoval, IsFit};
 
 use api_objects::there;
 use api_replies::{Outcome, Refusal, Stop, keep, removed};
 use json_tree::{Copied, Text};
 use resource_types::{Kind, Object};
 use std::alloc::{AllocError, Global};
-use version_store::store::Store;
-use version_store::write::{Change, Expect, Plan};
+use version_store::{Change, Expect, Plan, Store};
 
 /// Whether clients remove objects of the kind.
 fn is_removable(kind: Kind) -> bool
@@ -23,14 +23,14 @@ fn is_removable(kind: Kind) -> bool
 }
 
 /// The removal of an object, as it stands.
-#[tactic(auto, unfolding(crate::specs::Calls::removes))]
 fn removal_of(alloc: Global, object: &Object) -> Result<Outcome, AllocError>
     ensures value { IfOk result (λ o. o ≡ spec.removes object.now) }
-    ensures fits { IfOk result IsFit }
+    ensures fits { (journal : Journal) → IsClientRemoval (state journal) object.now.key → IfOk result (IsFit journal) }
 {
     let reply = removed(alloc)?;
+    let key = object.key.copy(alloc)?;
     let plan = Plan {
-        key: object.key.copy(alloc)?,
+        key,
         expect: Expect::At(object.meta.stamp.version),
         guarded: false,
         change: Change::Remove,
@@ -51,9 +51,9 @@ pub fn removing(
     space: &str,
     name: &str,
 ) -> Result<Outcome, Stop>
-    requires { AreKept store.now.entries }
+    requires { AreStorable store.now.entries }
     ensures answer { Comes result (spec.removing store.now.entries kind space.now name.now) }
-    ensures fits { IfOk result IsFit }
+    ensures fits { IfOk result (IsFit store.now.entries) }
 {
     keep(is_removable(kind), Refusal::NoSuchPath)?;
     let space = Text::new(alloc, space)?;

@@ -1,8 +1,12 @@
 //! Replacing an object.
-ghost use Rattle.std.specs.Prelude.{◌≡◌, ◌<◌, ◌-◌, ◌^◌, length, IfOk};
+ghost use Rattle.std.specs.Prelude.{◌≡◌, ◌<◌, ◌-◌, ◌^◌, length, IsTrue, IfOk};
 ghost use Rattle.std.specs.Option.{ForSome};
 ghost use Rattle.api_calls.specs.Calls as spec;
-ghost use Rattle.api_replies.specs.Kept.{AreKept, IsKept, IsReadable, CanBePut};
+ghost use Rattle.serve_names.specs.Labels.{is_label_of};
+ghost use Rattle.resource_types.specs.Manifests.{object_kind};
+ghost use Rattle.resource_codec.specs.Storable.{AreStorable};
+ghost use Rattle.manifest_intake.specs.Bodies.{IsReadable};
+ghost use Rattle.api_objects.specs.Puts.{StandsAs, AsksFor};
 ghost use Rattle.api_replies.specs.Outcomes.{Comes, IsFit};
 
 use crate::asked::manifest_in;
@@ -12,7 +16,7 @@ use json_tree::{Json, Text};
 use manifest_intake::Purpose;
 use resource_types::{ClientKind, Manifest, Object};
 use std::alloc::Global;
-use version_store::store::Store;
+use version_store::Store;
 
 /// Puts a manifest over the object that stands, where the version agrees and no template changes under its name.
 #[tactic(auto, unfolding(crate::specs::Calls::agreeing))]
@@ -26,11 +30,11 @@ pub fn agreeing(
     manifest: Manifest,
 ) -> Result<Outcome, Stop>
     requires room { length store.now.entries < 2 ^ 64 - 1 }
-    requires old { IsKept old.now }
-    requires kept { CanBePut place.kind manifest }
+    requires old { StandsAs store.now.entries (object_kind place.kind) place.space.now place.name.now old.now }
+    requires asks { AsksFor place.kind place.space.now place.name.now manifest }
     ensures answer { Comes result (spec.agreeing store.now.entries moment place.entry.kind place.entry.space.now place.entry.name.now
         old.now is_fresh manifest) }
-    ensures fits { IfOk result IsFit }
+    ensures fits { IfOk result (IsFit store.now.entries) }
 {
     agree(alloc, is_fresh, place.kind.kind(), old)?;
     changed_well(old, &manifest)?;
@@ -46,12 +50,12 @@ fn replace_standing(
     place: Place<'_>,
     manifest: Manifest,
 ) -> Result<Outcome, Stop>
-    requires entries { AreKept store.now.entries }
+    requires storable { AreStorable store.now.entries }
     requires room { length store.now.entries < 2 ^ 64 - 1 }
-    requires kept { CanBePut place.kind manifest }
+    requires asks { AsksFor place.kind place.space.now place.name.now manifest }
     ensures answer { Comes result (spec.replacing_with store.now.entries moment place.entry.kind place.entry.space.now place.entry.name.now
         manifest) }
-    ensures fits { IfOk result IsFit }
+    ensures fits { IfOk result (IsFit store.now.entries) }
 {
     let of_kind = place.kind.kind();
     let old = there(alloc, store, of_kind, place.space, place.name)?;
@@ -79,11 +83,12 @@ pub fn replacing(
     name: &str,
     body: Option<Json>,
 ) -> Result<Outcome, Stop>
-    requires kept { AreKept store.now.entries }
+    requires storable { AreStorable store.now.entries }
     requires room { length store.now.entries < 2 ^ 64 - 1 }
+    requires label { IsTrue (is_label_of space.now 63) }
     requires body { ForSome body IsReadable }
     ensures answer { Comes result (spec.replacing store.now.entries moment kind space.now name.now body) }
-    ensures fits { IfOk result IsFit }
+    ensures fits { IfOk result (IsFit store.now.entries) }
 {
     let manifest = manifest_in(alloc, Purpose::Replace { space, name }, kind, body)?;
     keep(gives_version(&manifest), Refusal::VersionMissing)?;

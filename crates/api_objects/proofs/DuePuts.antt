@@ -7,7 +7,7 @@ use Rattle.resource_types.specs.declared.names.ClientKind.{ClientKind}
 use Rattle.resource_types.specs.declared.names.Key.{Key}
 use Rattle.resource_types.specs.declared.objects.Object.{Object}
 use Rattle.resource_types.specs.declared.manifests.Manifest.{Manifest}
-use Rattle.resource_types.specs.Lookups.{Log, key_of}
+use Rattle.resource_types.specs.Lookups.{Journal, key_of}
 use Rattle.resource_types.specs.Manifests.{object_kind}
 use Rattle.api_replies.specs.declared.outcome.Outcome.{Outcome}
 use Rattle.api_replies.specs.Replies.{shown}
@@ -15,7 +15,7 @@ use Rattle.api_replies.specs.Outcomes.{ClientPlan}
 use Rattle.api_objects.specs.Objects.{made_over, with_stamp, put_over}
 use Rattle.api_objects.specs.Puts.{put_of, puts, place_key, object_put}
 
-pub object_is_due : (journal : Log) (moment : ℕ) (kind : ClientKind) (space name : List ℕ) (k : Kind) (key : Key) (old : Option Object) (m : Manifest) (made o : Object)
+pub object_is_due : (journal : Journal) (moment : ℕ) (kind : ClientKind) (space name : List ℕ) (k : Kind) (key : Key) (old : Option Object) (m : Manifest) (made o : Object)
     → k ≡ object_kind kind → key ≡ key_of k space name → made ≡ made_over key old m → o ≡ with_stamp journal moment made
     → o ≡ object_put journal moment (place_key kind space name) old m
 unfolding object_put

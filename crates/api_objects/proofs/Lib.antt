@@ -1,2 +1,3 @@
-pub mod Kept
+pub mod StandsAs
+pub mod ClientPuts
 pub mod DuePuts

@@ -2,7 +2,6 @@
 use Rattle.std.specs.Prelude.{ℕ, Option, Some, None, if◌then◌else◌}
 use Rattle.version_store.specs.Journal.{stamp_after}
 use Rattle.resource_types.specs.declared.names.Key.{Key}
-use Rattle.resource_types.specs.declared.metadata.Owner.{Owner}
 use Rattle.resource_types.specs.declared.status.ObjectStatus.{ObjectStatus}
 use Rattle.resource_types.specs.declared.manifests.Manifest.{Manifest}
 use Rattle.resource_types.specs.declared.manifests.ManifestSpec.{ManifestSpec}
@@ -12,25 +11,15 @@ use Rattle.resource_types.specs.declared.objects.Body.TheVariants as body
 use Rattle.resource_types.specs.declared.objects.Object.{Object}
 use Rattle.resource_types.specs.contracts.names.KeyOrd.TheImpl as key_order
 use Rattle.resource_types.specs.contracts.item.ObjectItem.TheImpl as object_item
-use Rattle.resource_types.specs.Objects.{no_status, status_of}
 use Rattle.resource_types.specs.Spec.{no_stamp, stamped, same_but_stamp}
-use Rattle.resource_types.specs.Lookups.{Log}
+use Rattle.resource_types.specs.Lookups.{Journal}
+use Rattle.resource_types.specs.Objects.{owner_of, status_over}
 
 -- a spec with a status
 abbrev pub body_of : ManifestSpec → ObjectStatus → Body
 body_of (spec.Service template traffic) status = body.Service template traffic status
 body_of (spec.Configuration template) status = body.Configuration template status
 body_of (spec.Route traffic) status = body.Route traffic status
-
--- the owner and the status of the object that stands; there are none where none stands
-abbrev pub owner_of : Option Object → Option Owner
-owner_of None = None
-owner_of (Some old) = old.meta.owner
-
--- the status that is kept; there is none where nothing stands
-abbrev pub status_over : Option Object → ObjectStatus
-status_over None = no_status
-status_over (Some old) = status_of old.body
 
 -- what a manifest makes of the object that stands: labels, annotations and spec are as given, owner and status stay
 abbrev pub made_over : Key → Option Object → Manifest → Object
@@ -41,7 +30,7 @@ made_over key standing m = record {
 }
 
 -- the object with the stamp that the store gives it, where it is put now
-abbrev pub with_stamp : Log → ℕ → Object → Object
+abbrev pub with_stamp : Journal → ℕ → Object → Object
 with_stamp journal moment o = stamped o (stamp_after object_item.ghosts key_order.ghosts.cmp journal o moment)
 
 -- what stands once an object is put: it, or the one that stood, where the two are the same but for their stamps

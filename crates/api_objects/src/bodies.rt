@@ -3,10 +3,11 @@ ghost use Rattle.std.specs.Prelude.{◌≡◌, ◌≤◌, IsTrue, IfOk};
 ghost use Rattle.std.specs.Option.{ForSome};
 ghost use Rattle.json_tree.specs.Tree.{is_well_formed, depth_of};
 ghost use Rattle.validation.specs.Change.{change_fault};
+ghost use Rattle.manifest_intake.specs.Bodies.{IsReadable};
+ghost use Rattle.manifest_intake.specs.Good.{IsAcceptedFor};
 ghost use Rattle.manifest_intake.specs.Intake.{accepted};
 ghost use Rattle.manifest_intake.specs.Seen.{purpose_seen};
 ghost use Rattle.api_objects.specs.Puts as spec;
-ghost use Rattle.api_replies.specs.Kept.{CanBePut, IsReadable};
 ghost use Rattle.api_replies.specs.Outcomes.{Comes, keeps};
 
 use api_replies::{Refusal, Stop};
@@ -17,14 +18,14 @@ use std::alloc::{AllocError, Global};
 use validation::check_change;
 
 /// The value of a body, or that it is unreadable.
-pub fn readable(body: Option<Json>) -> Result<Json, Stop>
+pub fn readable(body: Option<Json>) -> Result<Json, Refusal>
     requires { ForSome body IsReadable }
-    ensures value { Comes result (spec.readable body) }
+    ensures value { result ≡ spec.readable body }
     ensures readable { IfOk result IsReadable }
 {
     match body {
         Some(json) => Ok(json),
-        None => Err(Stop::Refused(Refusal::Manifest(ManifestRefusal::UnreadableBody))),
+        None => Err(Refusal::Manifest(ManifestRefusal::UnreadableBody)),
     }
 }
 
@@ -37,7 +38,7 @@ pub fn taken(
 ) -> Result<Manifest, Stop>
     requires { IsReadable json.now }
     ensures value { Comes result (spec.taken (accepted (purpose_seen purpose.entry) kind json.now)) }
-    ensures kept { IfOk result (CanBePut kind) }
+    ensures accepted { IfOk result (IsAcceptedFor (purpose_seen purpose.entry) kind) }
 {
     match accept(alloc, purpose, kind, json) {
         Ok(manifest) => Ok(manifest),
@@ -69,11 +70,11 @@ pub fn agree(alloc: Global, holds: bool, kind: Kind, object: &Object) -> Result<
 }
 
 /// Nothing where a manifest changes no template under a kept name, and else that it does.
-pub fn changed_well(old: &Object, manifest: &Manifest) -> Result<(), Stop>
-    ensures { Comes result (spec.changed_well (change_fault old.now manifest.now)) }
+pub fn changed_well(old: &Object, manifest: &Manifest) -> Result<(), Refusal>
+    ensures { result ≡ spec.changed_well (change_fault old.now manifest.now) }
 {
     match check_change(old, manifest) {
         Ok(()) => Ok(()),
-        Err(_) => Err(Stop::Refused(Refusal::KeptName)),
+        Err(_) => Err(Refusal::KeptName),
     }
 }

@@ -3,6 +3,7 @@ ghost use Rattle.std.specs.Prelude.{◌≡◌, IfOk};
 ghost use Rattle.std.specs.Option.{option_copied};
 ghost use Rattle.resource_types.specs.Objects.{status_of};
 ghost use Rattle.resource_types.specs.Lookups.{key_of};
+ghost use Rattle.resource_types.specs.Objects as kinds;
 ghost use Rattle.api_objects.specs.Objects as spec;
 
 use json_tree::{Copied, Text};
@@ -10,7 +11,7 @@ use resource_types::{
     Body, Key, Kind, Manifest, ManifestSpec, Meta, Name, Object, ObjectStatus, Owner,
 };
 use std::alloc::{AllocError, Global};
-use version_store::item::Stamp;
+use version_store::Stamp;
 
 fn status_of(alloc: Global, object: &Object) -> Result<ObjectStatus, AllocError>
     ensures { IfOk result (λ s. s ≡ status_of object.now.body) }
@@ -25,7 +26,7 @@ fn status_of(alloc: Global, object: &Object) -> Result<ObjectStatus, AllocError>
 }
 
 fn status_over(alloc: Global, old: Option<&Object>) -> Result<ObjectStatus, AllocError>
-    ensures { IfOk result (λ s. s ≡ spec.status_over (option_copied old.entry)) }
+    ensures { IfOk result (λ s. s ≡ kinds.status_over (option_copied old.entry)) }
 {
     match old {
         Some(object) => status_of(alloc, object),
@@ -34,7 +35,7 @@ fn status_over(alloc: Global, old: Option<&Object>) -> Result<ObjectStatus, Allo
 }
 
 fn owner_of(alloc: Global, old: Option<&Object>) -> Result<Option<Owner>, AllocError>
-    ensures { IfOk result (λ o. o ≡ spec.owner_of (option_copied old.entry)) }
+    ensures { IfOk result (λ o. o ≡ kinds.owner_of (option_copied old.entry)) }
 {
     match old {
         Some(object) => object.meta.owner.copy(alloc),

@@ -1,12 +1,15 @@
 //! Putting the object that a manifest asks for.
-ghost use Rattle.std.specs.Prelude.{◌≡◌, ◌≢◌, ◌<◌, ◌≤◌, ◌-◌, ◌^◌, length, IfOk};
+ghost use Rattle.std.specs.Prelude.{◌≡◌, ◌≢◌, ◌<◌, ◌≤◌, ◌-◌, ◌^◌, None, length, IfOk};
 ghost use Rattle.std.specs.Option.{option_copied, ForSome};
 ghost use Rattle.http_session.specs.Reply.{IsReply, IsReplyCode};
 ghost use Rattle.api_objects.specs.Objects as objects;
 ghost use Rattle.api_replies.specs.Replies as replies;
 ghost use Rattle.api_objects.specs.Puts as spec;
-ghost use Rattle.api_replies.specs.Kept.{IsKept, CanBePut};
-ghost use Rattle.api_replies.specs.Outcomes.{CanBeMade, IsFit};
+ghost use Rattle.resource_types.specs.Lookups.{Journal, state};
+ghost use Rattle.resource_types.specs.Manifests.{object_kind};
+ghost use Rattle.resource_codec.specs.Storable.{IsStorable};
+ghost use Rattle.api_objects.specs.Puts.{StandsAs, AsksFor};
+ghost use Rattle.api_replies.specs.Outcomes.{IsClientPut, IsFit};
 
 use crate::objects::{key_of, made_over};
 use api_replies::{Outcome, shown};
@@ -14,9 +17,7 @@ use http_session::Reply;
 use json_tree::{Copied, Text};
 use resource_types::{ClientKind, Manifest, Object};
 use std::alloc::{AllocError, Global};
-use version_store::item::Item;
-use version_store::store::Store;
-use version_store::write::{Change, Expect, Plan};
+use version_store::{Change, Expect, Item, Plan, Store};
 
 /// Where an object stands, or is to stand.
 #[derive(Clone, Copy)]
@@ -47,8 +48,8 @@ fn show_put(
     old: Option<&Object>,
     object: &Object,
 ) -> Result<Reply, AllocError>
-    requires old { ForSome (option_copied old) IsKept }
-    requires kept { IsKept object.now }
+    requires old { ForSome (option_copied old) IsStorable }
+    requires storable { IsStorable object.now }
     requires code { IsReplyCode code }
     requires other { code ≢ 405 }
     ensures value { IfOk result (λ r. r ≡ replies.shown code (objects.put_over (option_copied old.entry) object.now)) }
@@ -70,10 +71,12 @@ fn object_put(
     manifest: Manifest,
 ) -> Result<Object, AllocError>
     requires room { length store.now.entries < 2 ^ 64 - 1 }
-    requires kept { CanBePut place.kind manifest }
+    requires asks { AsksFor place.kind place.space.now place.name.now manifest }
+    requires over { option_copied old ≡ spec.standing store.now.entries (object_kind place.kind) place.space.now place.name.now }
     ensures value { IfOk result (λ o. o ≡ spec.object_put store.now.entries moment
         (spec.place_key place.entry.kind place.entry.space.now place.entry.name.now) (option_copied old.entry) manifest) }
-    ensures kept { IfOk result IsKept }
+    // It is one that a client may put over what stands.
+    ensures client { IfOk result (λ o. IsClientPut (state store.now.entries) o.key o) }
 {
     let of_kind = place.kind.kind();
     let key = key_of(alloc, of_kind, place.space, place.name)?;
@@ -83,9 +86,7 @@ fn object_put(
 
 /// The put of an object under its key.
 fn put_of(alloc: Global, expect: Expect, object: Object) -> Result<Plan<Object>, AllocError>
-    requires { IsKept object }
-    ensures value { IfOk result (λ p. p ≡ spec.put_of expect object) }
-    ensures fits { IfOk result CanBeMade }
+    ensures { IfOk result (λ p. p ≡ spec.put_of expect object) }
 {
     let key = object.key.copy(alloc)?;
     Ok(Plan {
@@ -104,12 +105,12 @@ fn put(
     expect: Expect,
     object: Object,
 ) -> Result<Outcome, AllocError>
-    requires old { ForSome (option_copied old) IsKept }
-    requires kept { IsKept object }
+    requires old { ForSome (option_copied old) IsStorable }
+    requires storable { IsStorable object }
     requires code { IsReplyCode code }
     requires other { code ≢ 405 }
     ensures value { IfOk result (λ o. o ≡ spec.puts code (option_copied old.entry) expect object) }
-    ensures fits { IfOk result IsFit }
+    ensures fits { (journal : Journal) → IsClientPut (state journal) object.key object → IfOk result (IsFit journal) }
 {
     let reply = show_put(alloc, code, old, &object)?;
     let plan = put_of(alloc, expect, object)?;
@@ -119,7 +120,7 @@ fn put(
     })
 }
 
-/// Makes an object where none stands.
+/// Makes the object that a manifest asks for, where none stands.
 pub fn make(
     alloc: Global,
     store: &Store<Object>,
@@ -128,9 +129,10 @@ pub fn make(
     manifest: Manifest,
 ) -> Result<Outcome, AllocError>
     requires room { length store.now.entries < 2 ^ 64 - 1 }
-    requires kept { CanBePut place.kind manifest }
+    requires asks { AsksFor place.kind place.space.now place.name.now manifest }
+    requires free { spec.standing store.now.entries (object_kind place.kind) place.space.now place.name.now ≡ None }
     ensures value { IfOk result (λ o. o ≡ spec.makes store.now.entries moment place.entry.kind place.entry.space.now place.entry.name.now manifest) }
-    ensures fits { IfOk result IsFit }
+    ensures fits { IfOk result (IsFit store.now.entries) }
 {
     let object = object_put(alloc, store, moment, place, None, manifest)?;
     put(alloc, 201, None, Expect::Absent, object)
@@ -146,10 +148,10 @@ pub fn replace(
     manifest: Manifest,
 ) -> Result<Outcome, AllocError>
     requires room { length store.now.entries < 2 ^ 64 - 1 }
-    requires old { IsKept old.now }
-    requires kept { CanBePut place.kind manifest }
+    requires old { StandsAs store.now.entries (object_kind place.kind) place.space.now place.name.now old.now }
+    requires asks { AsksFor place.kind place.space.now place.name.now manifest }
     ensures value { IfOk result (λ o. o ≡ spec.replaces store.now.entries moment place.entry.kind place.entry.space.now place.entry.name.now old.now manifest) }
-    ensures fits { IfOk result IsFit }
+    ensures fits { IfOk result (IsFit store.now.entries) }
 {
     let expect = Expect::At(old.meta.stamp.version);
     let object = object_put(alloc, store, moment, place, Some(old), manifest)?;

@@ -1,3 +1,4 @@
 pub mod Fronts
 pub mod Places
 pub mod VersionLemmas
+pub mod Labels

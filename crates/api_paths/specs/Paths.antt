@@ -1,5 +1,5 @@
 -- What paths name, and the calls of their methods.
-use Rattle.std.specs.Prelude.{ℕ, Bool, not, ◌&&◌, ◌==◌, nat_lt, List, [], ◌∷◌, length, take, drop, codes, Option, Some, None, if◌then◌else◌}
+use Rattle.std.specs.Prelude.{◌≡◌, ℕ, Bool, true, not, ◌&&◌, ◌==◌, nat_lt, List, [], ◌∷◌, length, take, drop, codes, Option, Some, None, if◌then◌else◌}
 use Rattle.std.specs.List.{list_all, before_first, after_first, position_or_len}
 use Rattle.std.specs.Str.{bytes_eq}
 use Rattle.serve_names.specs.Labels.{is_label_of}
@@ -152,3 +152,14 @@ allow_of clock = allow.Post
 allow_of steps = allow.Post
 allow_of settling = allow.Post
 allow_of overview = allow.Get
+
+-- ---- where an object stands
+
+-- a call on one object, or one that makes an object, has a label of at most 63 bytes as its namespace
+abbrev pub HasLabel : Call → Type 0
+HasLabel (create c space) = is_label_of space 63 ≡ true
+HasLabel (read k space name) = is_label_of space 63 ≡ true
+HasLabel (replace c space name) = is_label_of space 63 ≡ true
+HasLabel (patch c space name) = is_label_of space 63 ≡ true
+HasLabel (remove k space name) = is_label_of space 63 ≡ true
+HasLabel other = Unit {0}

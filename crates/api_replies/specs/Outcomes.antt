@@ -1,5 +1,5 @@
 -- What a request comes to: a reply and perhaps a write, or a reason to refuse it; want of memory is free.
-use Rattle.std.specs.Prelude.{◌≡◌, Bool, None, Result, Ok, Err, if◌then◌else◌}
+use Rattle.std.specs.Prelude.{◌≡◌, Bool, true, Option, Some, None, is_some, Result, Ok, Err, if◌then◌else◌}
 use Rattle.std.specs.Option.{ForSome}
 use Rattle.std.specs.Borrow.{Bor}
 use Rattle.http_session.specs.declared.message.Reply.{Reply}
@@ -13,11 +13,15 @@ use Rattle.resource_types.specs.declared.names.Key.{Key}
 use Rattle.resource_types.specs.declared.names.Name.{Name}
 use Rattle.resource_types.specs.declared.names.Actor.{Actor}
 use Rattle.resource_types.specs.declared.objects.Object.{Object}
+use Rattle.resource_types.specs.Objects.{is_of_client, owner_of, status_of, status_over}
+use Rattle.resource_types.specs.Lookups.{Journal, State, state, find}
+use Rattle.resource_types.specs.Manifests.{client_kind}
+use Rattle.resource_codec.specs.Storable.{IsStorable}
+use Rattle.manifest_intake.specs.Good.{is_good, asked_of}
 use Rattle.api_replies.specs.declared.outcome.Outcome.{Outcome}
 use Rattle.api_replies.specs.declared.outcome.Stop.{Stop}
 use Rattle.api_replies.specs.declared.outcome.Stop.TheVariants.{Refused, Memory}
 use Rattle.api_replies.specs.declared.refusal.Refusal.{Refusal}
-use Rattle.api_replies.specs.Kept.{IsKept}
 use Rattle.api_replies.specs.Replies.{refused}
 
 -- a plan of a client
@@ -55,19 +59,36 @@ Gives (Ok o) due = due ≡ Ok o.now
 Gives (Err (Refused refusal)) due = due ≡ Err refusal
 Gives (Err Memory) due = Unit {0}
 
+-- ---- what clients write
+
+-- a client puts a good object of a kind that clients write, with the owner and the status of what stands under its key, and it may be stored
+pub record IsClientPut (st : State) (k : Key) (o : Object) : Type 0 where
+  pub key : o.key ≡ k
+  pub client : is_of_client o ≡ true
+  pub good : is_good (asked_of o) ≡ true
+  pub owner : o.meta.owner ≡ owner_of (find k st)
+  pub status : status_of o.body ≡ status_over (find k st)
+  pub storable : IsStorable o
+
+-- a client removes an object that stands, of a kind that clients write
+pub record IsClientRemoval (st : State) (k : Key) : Type 0 where
+  pub object : Object
+  pub stands : find k st ≡ Some object
+  pub client : is_some (client_kind k.kind) ≡ true
+
+-- either of them
+abbrev pub IsClientChange : State → Key → Change Object → Type 0
+IsClientChange st k (Put o) = IsClientPut st k o
+IsClientChange st k Remove = IsClientRemoval st k
+
 -- ---- outcomes that a session and the store can take
 
--- what is put can be kept
-abbrev pub PutsKept : Change Object → Type 0
-PutsKept (Put o) = IsKept o
-PutsKept Remove = Unit {0}
-
--- a plan that the store takes, and whose object can be kept
-pub record CanBeMade (plan : ClientPlan) : Type 0 where
+-- a plan that the store takes, and whose change is one of clients over what stands
+pub record CanBeMade (journal : Journal) (plan : ClientPlan) : Type 0 where
   pub makeable : IsMakeable (λ (o : Object). o.key) plan
-  pub kept : PutsKept plan.change
+  pub change : IsClientChange (state journal) plan.key plan.change
 
 -- a reply that a session can write, and a plan that can be made, if there is one
-pub record IsFit (outcome : Outcome) : Type 0 where
+pub record IsFit (journal : Journal) (outcome : Outcome) : Type 0 where
   pub reply : IsReply outcome.reply
-  pub plan : ForSome outcome.plan CanBeMade
+  pub plan : ForSome outcome.plan (CanBeMade journal)

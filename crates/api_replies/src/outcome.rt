@@ -2,13 +2,14 @@
 ghost use Rattle.std.specs.Prelude.{◌≡◌, IfOk};
 ghost use Rattle.api_replies.specs.Outcomes as spec;
 ghost use Rattle.api_replies.specs.Outcomes.{Comes, IsFit};
+ghost use Rattle.resource_types.specs.Lookups.{Journal};
 
 use crate::refusal::Refusal;
 use crate::replies::refused;
 use http_session::Reply;
 use resource_types::Object;
 use std::alloc::{AllocError, Global};
-use version_store::write::Plan;
+use version_store::Plan;
 
 /// A reply, and the write that its request makes, if any.
 #[derive(Drop)]
@@ -39,6 +40,17 @@ impl From<AllocError> for Stop {
     }
 }
 
+impl From<Refusal> for Stop {
+    ghost use Rattle.std.specs.Prelude.{◌≡◌};
+    ghost use Rattle.api_replies.specs.declared.outcome.Stop.TheVariants.{Refused};
+
+    ghost from_gives = { λ refusal e. e ≡ Refused refusal };
+
+    fn from(refusal: Refusal) -> Stop {
+        Stop::Refused(refusal)
+    }
+}
+
 impl Outcome {
     /// A reply and no write.
     pub fn only(reply: Reply) -> Outcome
@@ -49,20 +61,16 @@ impl Outcome {
 }
 
 /// Nothing where the test holds, and else the refusal.
-pub fn keep(holds: bool, refusal: Refusal) -> Result<(), Stop>
-    ensures { Comes result (spec.keeps holds refusal) }
+pub fn keep(holds: bool, refusal: Refusal) -> Result<(), Refusal>
+    ensures { result ≡ spec.keeps holds refusal }
 {
-    if holds {
-        Ok(())
-    } else {
-        Err(Stop::Refused(refusal))
-    }
+    if holds { Ok(()) } else { Err(refusal) }
 }
 
 /// The outcome of a call: of one that is refused, its refusal as a reply.
 pub fn settle(alloc: Global, called: Result<Outcome, Stop>) -> Result<Outcome, AllocError>
     ensures settled { (due : spec.Answer) → Comes called due → IfOk result (λ o. o ≡ spec.settled due) }
-    ensures fits { IfOk called IsFit → IfOk result IsFit }
+    ensures fits { (journal : Journal) → IfOk called (IsFit journal) → IfOk result (IsFit journal) }
 {
     match called {
         Ok(outcome) => Ok(outcome),

@@ -3,7 +3,7 @@ use Rattle.std.proofs.Common.{◌≡◌, ℕ, List, Option, Some, None, Result, 
 use Rattle.json_tree.specs.declared.value.Json.{Json}
 use Rattle.http_session.specs.declared.message.Request.{Request}
 use Rattle.resource_types.specs.declared.names.ClientKind.{ClientKind}
-use Rattle.resource_types.specs.Lookups.{Log}
+use Rattle.resource_types.specs.Lookups.{Journal}
 use Rattle.api_paths.specs.declared.calls.PathError.{PathError}
 use Rattle.api_paths.specs.Paths.{Call, patch, replace}
 use Rattle.manifest_intake.specs.Bodies.{IsBody}
@@ -16,19 +16,19 @@ use Rattle.api_calls.proofs.Versioned.{patches_as_put}
 use Rattle.api_server.specs.Ask.{AnswersRoute, Answers, Makes, IsAsPut, PatchesAsPut}
 
 -- what a patch comes to, where it isn't refused, is what the replacement comes to
-is_put : (journal : Log) (moment : ℕ) (kind : ClientKind) (space name : List ℕ) (body : Option Json) (o : Outcome)
+is_put : (journal : Journal) (moment : ℕ) (kind : ClientKind) (space name : List ℕ) (body : Option Json) (o : Outcome)
     → patching journal moment kind space name body ≡ Ok o → IsPutOf journal moment kind space name body o
 unfolding patching
 is_put journal moment kind space name None o h = cc
 is_put journal moment kind space name (Some p) o h = patches_as_put (Ok o) journal moment kind space name space name (Some p) p refl refl refl h
 
 -- the outcome of a patch with this body that comes to `made`
-its_outcome : (journal : Log) (moment : ℕ) (kind : ClientKind) (space name : List ℕ) (bytes : List ℕ) (body : Option Json) (made outcome : Outcome)
+its_outcome : (journal : Journal) (moment : ℕ) (kind : ClientKind) (space name : List ℕ) (bytes : List ℕ) (body : Option Json) (made outcome : Outcome)
     → IsBody bytes body → patching journal moment kind space name body ≡ Ok made → AnswersRoute journal moment bytes (Ok (patch kind space name)) outcome → outcome ≡ made
 its_outcome journal moment kind space name bytes body made outcome is h (b, other, e) =
     e ∙ ap (λ (x : Option Json). settled (patching journal moment kind space name x)) (one_body bytes b body other is) ∙ ap settled h
 
-as_put : (journal : Log) (moment : ℕ) (kind : ClientKind) (space name : List ℕ) (body : Option Json) (made outcome : Outcome) → outcome ≡ made
+as_put : (journal : Journal) (moment : ℕ) (kind : ClientKind) (space name : List ℕ) (body : Option Json) (made outcome : Outcome) → outcome ≡ made
     → IsPutOf journal moment kind space name body made → IsAsPut journal moment kind space name body outcome
 unfolding Answers
 as_put journal moment kind space name body made outcome e w = record {
@@ -41,7 +41,7 @@ as_put journal moment kind space name body made outcome e w = record {
 }
 
 -- the outcome of a request that is a patch
-pub patches_as_replaced : (journal : Log) (moment : ℕ) (request : Request) (outcome : Outcome) → Answers journal moment request outcome
+pub patches_as_replaced : (journal : Journal) (moment : ℕ) (request : Request) (outcome : Outcome) → Answers journal moment request outcome
     → PatchesAsPut journal moment request outcome
 unfolding Answers
 patches_as_replaced journal moment request outcome answers kind space name body made makes is h =

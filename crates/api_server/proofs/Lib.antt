@@ -1,4 +1,4 @@
-pub mod Kept
+pub mod Changes
 pub mod Unique
 pub mod AsPut
 pub mod Handles

@@ -14,7 +14,7 @@ use Rattle.resource_types.specs.declared.names.Actor.TheVariants.{Client}
 use Rattle.resource_types.specs.declared.objects.Object.{Object}
 use Rattle.resource_types.specs.contracts.names.KeyOrd.TheImpl as key_order
 use Rattle.resource_types.specs.contracts.item.ObjectItem.TheImpl as object_item
-use Rattle.resource_types.specs.Lookups.{Log}
+use Rattle.resource_types.specs.Lookups.{Journal}
 use Rattle.resource_types.specs.Manifests.{object_kind}
 use Rattle.api_paths.specs.declared.calls.PathError.{PathError}
 use Rattle.api_paths.specs.Paths as paths
@@ -31,7 +31,7 @@ use Rattle.api_server.specs.declared.mark.Mark.{Mark}
 
 -- a world: all that was written, the moment, and a mark for each request that was answered
 pub record State : Type 0 where
-  pub journal : Log
+  pub journal : Journal
   pub moment : ℕ
   pub marks : List Mark
 
@@ -42,7 +42,7 @@ abbrev pub AnswersBody : List ℕ → (Option Json → Answer) → Outcome → T
 AnswersBody bytes answer outcome = (body : Option Json) × IsBody bytes body × (outcome ≡ settled (answer body))
 
 -- what a call comes to; one that isn't built yet is none of a path that exists
-abbrev pub AnswersCall : Log → ℕ → List ℕ → paths.Call → Outcome → Type 0
+abbrev pub AnswersCall : Journal → ℕ → List ℕ → paths.Call → Outcome → Type 0
 AnswersCall journal moment bytes (paths.list kind space) outcome = outcome ≡ settled (listing journal kind space)
 AnswersCall journal moment bytes (paths.poll kind space after) outcome = outcome ≡ settled (polling journal kind space after)
 AnswersCall journal moment bytes (paths.read kind space name) outcome = outcome ≡ settled (reading journal kind space name)
@@ -53,12 +53,12 @@ AnswersCall journal moment bytes (paths.remove kind space name) outcome = outcom
 AnswersCall journal moment bytes other outcome = outcome ≡ settled (Err NoSuchPath)
 
 -- what a method and a target come to: a call, or a fault of the path
-abbrev pub AnswersRoute : Log → ℕ → List ℕ → Result paths.Call PathError → Outcome → Type 0
+abbrev pub AnswersRoute : Journal → ℕ → List ℕ → Result paths.Call PathError → Outcome → Type 0
 AnswersRoute journal moment bytes (Err fault) outcome = outcome ≡ only (path_refused fault)
 AnswersRoute journal moment bytes (Ok call) outcome = AnswersCall journal moment bytes call outcome
 
 -- the reply to a request over the journal at a moment, and the write that it makes, if any
-unfoldable pub Answers : Log → ℕ → Request → Outcome → Type 0
+unfoldable pub Answers : Journal → ℕ → Request → Outcome → Type 0
 Answers journal moment request outcome = AnswersRoute journal moment request.body (call_of request.method request.target) outcome
 
 -- ---- a patch is a replacement
@@ -69,7 +69,7 @@ Makes request call = call_of request.method request.target ≡ Ok call
 
 -- The outcome is that of each replacement of the same object whose body is a text of what the patch makes of the document that stands, with the
 -- version that stands.
-pub record IsAsPut (journal : Log) (moment : ℕ) (kind : ClientKind) (space name : List ℕ) (body : Option Json) (outcome : Outcome) : Type 0 where
+pub record IsAsPut (journal : Journal) (moment : ℕ) (kind : ClientKind) (space name : List ℕ) (body : Option Json) (outcome : Outcome) : Type 0 where
   pub old : Object
   pub patch : Json
   pub given : body ≡ Some patch
@@ -78,7 +78,7 @@ pub record IsAsPut (journal : Log) (moment : ℕ) (kind : ClientKind) (space nam
       → IsBody other.body (Some (versioned (version_text old) (patched_document old patch))) → Answers journal moment other outcome
 
 -- where the request is a patch that isn't refused, its outcome is that of such a replacement, over the same journal and at the same moment
-abbrev pub PatchesAsPut : Log → ℕ → Request → Outcome → Type 0
+abbrev pub PatchesAsPut : Journal → ℕ → Request → Outcome → Type 0
 PatchesAsPut journal moment request outcome =
     (kind : ClientKind) (space name : List ℕ) (body : Option Json) (made : Outcome) → Makes request (paths.patch kind space name)
     → IsBody request.body body → patching journal moment kind space name body ≡ Ok made → IsAsPut journal moment kind space name body outcome
@@ -91,16 +91,16 @@ later moment None = moment
 later moment (Some now) = max moment now
 
 -- a client's write sees the whole journal, and is made at the moment
-abbrev pub write_of : Log → ℕ → ClientPlan → Write Object Kind Key Name Actor
+abbrev pub write_of : Journal → ℕ → ClientPlan → Write Object Kind Key Name Actor
 write_of journal moment plan = record { plan = plan; actor = Client; seen = length journal; read_at = moment; moment = moment }
 
 -- the journal with what the store makes of the write, if there is one
-unfoldable pub journal_after : Log → ℕ → Option ClientPlan → Log
+unfoldable pub journal_after : Journal → ℕ → Option ClientPlan → Journal
 journal_after journal moment None = journal
 journal_after journal moment (Some plan) = entries_after object_item.ghosts key_order.ghosts.cmp journal (write_of journal moment plan)
 
 -- what a request found: the journal's length and the moment
-abbrev pub mark_at : Log → ℕ → Mark
+abbrev pub mark_at : Journal → ℕ → Mark
 mark_at journal moment = record { position = length journal; moment = moment }
 
 -- the world with the moment moved, the mark added, and what was written; all else stays
@@ -112,7 +112,7 @@ after_request old moment plan = record old {
 }
 
 -- a request at a moment: its reply and its write are those over the journal, and its mark is added
-pub record AnswersAt (old new : Log) (before now : List Mark) (moment : ℕ) (request : Request) (reply : Reply) : Type 0 where
+pub record AnswersAt (old new : Journal) (before now : List Mark) (moment : ℕ) (request : Request) (reply : Reply) : Type 0 where
   pub outcome : Outcome
   pub answers : Answers old moment request outcome
   pub replies : reply ≡ outcome.reply

@@ -1,9 +1,12 @@
 //! The answer to a request.
-ghost use Rattle.std.specs.Prelude.{◌≡◌, ◌<◌, ◌-◌, ◌^◌, Err, length, IfOk};
+ghost use Rattle.std.specs.Prelude.{◌≡◌, ◌<◌, ◌-◌, ◌^◌, Err, length, IsTrue, IfOk};
+ghost use Rattle.api_paths.specs.Paths.{HasLabel};
 ghost use Rattle.api_paths.specs.Seen.{call_seen};
 ghost use Rattle.api_server.specs.Ask as spec;
 ghost use Rattle.api_calls.specs.Calls as calls;
-ghost use Rattle.api_replies.specs.Kept.{AreKept};
+ghost use Rattle.serve_names.specs.Labels.{is_label_of};
+ghost use Rattle.resource_types.specs.Lookups.{Journal};
+ghost use Rattle.resource_codec.specs.Storable.{AreStorable};
 ghost use Rattle.api_replies.specs.Outcomes.{settled, IsFit};
 
 use api_calls::{creating, listing, patching, polling, reading, removing, replacing};
@@ -13,7 +16,7 @@ use http_session::Request;
 use manifest_intake::read_body;
 use resource_types::{ClientKind, Object};
 use std::alloc::{AllocError, Global};
-use version_store::store::Store;
+use version_store::Store;
 
 fn create(
     alloc: Global,
@@ -23,10 +26,11 @@ fn create(
     space: &str,
     bytes: &[u8],
 ) -> Result<Outcome, AllocError>
-    requires kept { AreKept store.now.entries }
+    requires storable { AreStorable store.now.entries }
     requires room { length store.now.entries < 2 ^ 64 - 1 }
+    requires label { IsTrue (is_label_of space.now 63) }
     ensures answers { IfOk result (spec.AnswersBody bytes.now (calls.creating store.now.entries moment kind space.now)) }
-    ensures fits { IfOk result IsFit }
+    ensures fits { IfOk result (IsFit store.now.entries) }
 {
     let body = read_body(alloc, bytes)?;
     settle(alloc, creating(alloc, store, moment, kind, space, body))
@@ -41,10 +45,11 @@ fn replace(
     name: &str,
     bytes: &[u8],
 ) -> Result<Outcome, AllocError>
-    requires kept { AreKept store.now.entries }
+    requires storable { AreStorable store.now.entries }
     requires room { length store.now.entries < 2 ^ 64 - 1 }
+    requires label { IsTrue (is_label_of space.now 63) }
     ensures answers { IfOk result (spec.AnswersBody bytes.now (calls.replacing store.now.entries moment kind space.now name.now)) }
-    ensures fits { IfOk result IsFit }
+    ensures fits { IfOk result (IsFit store.now.entries) }
 {
     let body = read_body(alloc, bytes)?;
     settle(
@@ -62,10 +67,11 @@ fn patch(
     name: &str,
     bytes: &[u8],
 ) -> Result<Outcome, AllocError>
-    requires kept { AreKept store.now.entries }
+    requires storable { AreStorable store.now.entries }
     requires room { length store.now.entries < 2 ^ 64 - 1 }
+    requires label { IsTrue (is_label_of space.now 63) }
     ensures answers { IfOk result (spec.AnswersBody bytes.now (calls.patching store.now.entries moment kind space.now name.now)) }
-    ensures fits { IfOk result IsFit }
+    ensures fits { IfOk result (IsFit store.now.entries) }
 {
     let body = read_body(alloc, bytes)?;
     settle(
@@ -77,7 +83,7 @@ fn patch(
 /// What a call comes to that isn't built yet.
 fn unbuilt(alloc: Global) -> Result<Outcome, AllocError>
     ensures answers { IfOk result (λ o. o ≡ settled (Err Refusal.NoSuchPath)) }
-    ensures fits { IfOk result IsFit }
+    ensures fits { (journal : Journal) → IfOk result (IsFit journal) }
 {
     Ok(Outcome::only(refused(alloc, &Refusal::NoSuchPath)?))
 }
@@ -90,10 +96,11 @@ fn answer_call(
     call: Call<'_>,
     bytes: &[u8],
 ) -> Result<Outcome, AllocError>
-    requires kept { AreKept store.now.entries }
+    requires storable { AreStorable store.now.entries }
     requires room { length store.now.entries < 2 ^ 64 - 1 }
+    requires label { HasLabel (call_seen call) }
     ensures answers { IfOk result (spec.AnswersCall store.now.entries moment bytes.now (call_seen call.entry)) }
-    ensures fits { IfOk result IsFit }
+    ensures fits { IfOk result (IsFit store.now.entries) }
 {
     match call {
         Call::List { kind, space } => settle(alloc, listing(alloc, store, kind, space)),
@@ -125,10 +132,10 @@ pub(crate) fn answer(
     moment: u64,
     request: &Request,
 ) -> Result<Outcome, AllocError>
-    requires kept { AreKept store.now.entries }
+    requires storable { AreStorable store.now.entries }
     requires room { length store.now.entries < 2 ^ 64 - 1 }
     ensures answers { IfOk result (spec.Answers store.now.entries moment request.now) }
-    ensures fits { IfOk result IsFit }
+    ensures fits { IfOk result (IsFit store.now.entries) }
 {
     match route_of(request.method.as_str(), request.target.as_str()) {
         Ok(call) => answer_call(alloc, store, moment, call, request.body.as_slice()),

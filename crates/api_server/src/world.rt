@@ -3,7 +3,7 @@ ghost use Rattle.std.specs.Prelude.{◌≡◌, ◌≤◌, ◌<◌, ◌-◌, ◌^
 ghost use Rattle.http_session.specs.Reply.{IsReply};
 ghost use Rattle.std.specs.Option.{ForSome};
 ghost use Rattle.api_server.specs.Ask as spec;
-ghost use Rattle.api_replies.specs.Kept.{AreKept};
+ghost use Rattle.resource_codec.specs.Storable.{AreStorable};
 ghost use Rattle.api_replies.specs.Outcomes.{CanBeMade};
 
 use crate::answers::answer;
@@ -13,8 +13,7 @@ use json_tree::Seq;
 use resource_types::{Actor, Object};
 use std::alloc::{AllocError, Global};
 use std::marker::Model;
-use version_store::store::Store;
-use version_store::write::{Plan, Write};
+use version_store::{Plan, Store, Write};
 
 /// A world: the store of all that was written, the moment, and a mark for each request that was answered.
 ///
@@ -30,7 +29,7 @@ pub struct World {
 impl Model for World {
     ghost use Rattle.std.specs.Prelude.{◌≤◌};
     ghost use Rattle.api_server.specs.Ask.{State};
-    ghost use Rattle.api_server.specs.World.{IsKept};
+    ghost use Rattle.api_server.specs.World.{IsSound};
     ghost use Rattle.json_tree.specs.contracts.value.Json as json;
     ghost use Rattle.std.specs.Coded.{codes};
 
@@ -40,7 +39,7 @@ impl Model for World {
 
     ghost view = { λ w. record { journal = w.store.entries; moment = w.moment; marks = w.marks } };
 
-    ghost invariant = { λ w. IsKept w.store.entries w.moment };
+    ghost invariant = { λ w. IsSound w.store.entries w.moment };
 }
 
 /// Makes a client's write, if there is one.
@@ -48,10 +47,10 @@ impl Model for World {
 fn apply(store: &mut Store<Object>, moment: u64, plan: Option<Plan<Object>>)
     requires spare { 1 ≤ store.old.spare }
     requires room { length store.old.entries < 2 ^ 64 - 1 }
-    requires kept { AreKept store.old.entries }
-    requires plan { ForSome plan CanBeMade }
+    requires storable { AreStorable store.old.entries }
+    requires plan { ForSome plan (CanBeMade store.old.entries) }
     ensures entries { store.new.entries ≡ spec.journal_after store.old.entries moment plan }
-    ensures kept { AreKept store.new.entries }
+    ensures storable { AreStorable store.new.entries }
 {
     let seen = store.version();
     if let Some(plan) = plan {
@@ -73,10 +72,10 @@ fn answer_at(
     moment: u64,
     request: &Request,
 ) -> Result<Reply, AllocError>
-    requires kept { AreKept store.old.entries }
+    requires storable { AreStorable store.old.entries }
     ensures answered { IfOk result (spec.AnswersAt store.old.entries store.new.entries marks.old marks.new moment request.now) }
     ensures reply { IfOk result IsReply }
-    ensures kept { AreKept store.new.entries }
+    ensures storable { AreStorable store.new.entries }
     ensures cut { OnErr result ((store.new.entries ≡ store.old.entries) × (marks.new ≡ marks.old)) }
 {
     store.prepare()?;

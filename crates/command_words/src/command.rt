@@ -22,7 +22,7 @@ pub enum WordsError {
     /// The words are outside the grammar.
     #[error("the words are no command")]
     Usage,
-    /// Memory is wanting.
+    /// Out of memory.
     #[error("out of memory")]
     Memory,
 }

@@ -7,6 +7,3 @@ mod command;
 mod options;
 
 pub use command::{Command, WordsError, read_command};
-
-#[cfg(test)]
-mod tests;

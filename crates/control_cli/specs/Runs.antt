@@ -82,7 +82,7 @@ ReplayLeaves old new GateFault = ⊥
 ReplayLeaves old new ManifestRefused = ⊥
 
 -- Where the source tells its bytes, these are a stream that ends well, they are fewer than a session takes, and neither end failed, all is
--- done, or memory was wanting.
+-- done, or out of memory.
 abbrev pub IsComplete : SessionState State → SessionState State → Status → Type 0
 IsComplete old new status = IfSome old.left (λ all. (asked : List Asked) → (IsStream all asked stream.Clean ⊎ IsStream all asked stream.Closed)
     → length all < 4294967295 → ¬ (Rose old.reads_failed new.reads_failed) → ¬ (Rose old.writes_failed new.writes_failed)

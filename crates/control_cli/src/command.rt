@@ -1,5 +1,5 @@
 //! The top call.
-ghost use Rattle.std.specs.Prelude.{◌≡◌, ◌⊎◌};
+ghost use Rattle.std.specs.Prelude.{◌≡◌, ◌≢◌, ◌⊎◌};
 ghost use Rattle.http_session.specs.Session.{state_of};
 ghost use Rattle.command_words.specs.Grammar.{IsCommand, IsOutside};
 ghost use Rattle.control_cli.specs.Ends.{status_of, status_of_check};
@@ -17,7 +17,9 @@ use std::alloc::Global;
 
 /// The status that stands for the end of a session.
 fn status_of(end: SessionEnd) -> Status
-    ensures { result ≡ status_of end }
+    ensures value { result ≡ status_of end }
+    ensures reads { result ≢ Status.ReadFault → end ≢ SessionEnd.ReadFault }
+    ensures writes { result ≢ Status.WriteFault → end ≢ SessionEnd.WriteFault }
 {
     match end {
         SessionEnd::Clean | SessionEnd::Closed => Status::Done,
@@ -46,6 +48,8 @@ fn replay<S: Source, K: Sink, C: Clock>(
         (state_of world.old (S.left source.old) (S.faults source.old) (K.taken sink.old) (K.faults sink.old) (C.moments clock.old))
         (state_of world.new (S.left source.new) (S.faults source.new) (K.taken sink.new) (K.faults sink.new) (C.moments clock.new))
         result }
+    ensures calm { result ≢ Status.ReadFault → S.faults source.new ≡ S.faults source.old }
+    ensures calm_sink { result ≢ Status.WriteFault → K.faults sink.new ≡ K.faults sink.old }
 {
     let report = session(alloc, world, source, sink, clock, ClockMode::Leave);
     status_of(report.end)
@@ -53,7 +57,9 @@ fn replay<S: Source, K: Sink, C: Clock>(
 
 /// The status that stands for the end of a check.
 fn status_of_check(end: CheckEnd) -> Status
-    ensures { result ≡ status_of_check end }
+    ensures value { result ≡ status_of_check end }
+    ensures reads { result ≢ Status.ReadFault → end ≢ CheckEnd.ReadFault }
+    ensures writes { result ≢ Status.WriteFault → end ≢ CheckEnd.WriteFault }
 {
     match end {
         CheckEnd::Done => Status::Done,
@@ -67,7 +73,7 @@ fn status_of_check(end: CheckEnd) -> Status
 /// Runs the command of the words over a world: `replay` is one session over the source, whose replies go to the sink, and
 /// `check` reads one manifest from the source and writes it with its defaults, or its refusal, to the sink.
 ///
-/// A source or a sink that fails ends the run with its status, and so does want of memory. Words outside the grammar are
+/// A source or a sink that fails ends the run with its status and isn't tried again; a run that is out of memory ends so too. Words outside the grammar are
 /// `Usage`: nothing is read or written, and the world is as before. The clock and the gate aren't used.
 #[tactic(auto, using(crate::proofs::Words::not_both, crate::proofs::Starts::leaves_at_once, crate::proofs::Starts::complete_at_once, crate::proofs::Starts::check_at_once, crate::proofs::Starts::check_leaves))]
 pub fn run<S: Source, K: Sink, C: Clock, G: Gate>(
@@ -96,6 +102,8 @@ pub fn run<S: Source, K: Sink, C: Clock, G: Gate>(
         (state_of world.old (S.left source.old) (S.faults source.old) (K.taken sink.old) (K.faults sink.old) (C.moments clock.old))
         (state_of world.new (S.left source.new) (S.faults source.new) (K.taken sink.new) (K.faults sink.new) (C.moments clock.new))
         result }
+    ensures calm { result ≢ Status.ReadFault → S.faults source.new ≡ S.faults source.old }
+    ensures calm_sink { result ≢ Status.WriteFault → K.faults sink.new ≡ K.faults sink.old }
     ensures gate { gate.new ≡ gate.old }
 {
     match read_command(alloc, words) {

@@ -21,7 +21,7 @@ pub enum Status {
     BadRequest,
     /// The manifest was refused.
     ManifestRefused,
-    /// Memory was wanting.
+    /// Out of memory.
     Memory,
     /// The input is longer than a session takes.
     TooLong,

@@ -82,7 +82,7 @@ Leaves old new Memory = WritesNone old new 65537
 abbrev pub AreLater : Ends → Ends → Type 0
 AreLater old new = (old.reads_failed ≤ new.reads_failed) × (old.writes_failed ≤ new.writes_failed)
 
--- ---- the end that is due for all the bytes of an input; want of memory is free
+-- ---- the end that is due for all the bytes of an input; out of memory is free
 
 pub record IsDue (all : List ℕ) (end : CheckEnd) : Type 0 where
   pub taken : (body : Option Json) (manifest : Manifest) → length all ≤ 65536 → IsBody all body → checked_body body ≡ Ok manifest
@@ -104,7 +104,7 @@ Sent taken_old taken_new failed_old failed_new line whole end =
     ((end ≡ whole) × Appends taken_old taken_new line)
     ⊎ ((end ≡ WriteFault) × Rose failed_old failed_new × (sent : ℕ) × (sent < length line) × Appends taken_old taken_new (take sent line))
 
--- the same, or memory was wanting and nothing was written
+-- the same, or out of memory and nothing was written
 abbrev pub Answers : Option (List ℕ) → Option (List ℕ) → ℕ → ℕ → List ℕ → CheckEnd → CheckEnd → Type 0
 Answers taken_old taken_new failed_old failed_new line whole end =
     Sent taken_old taken_new failed_old failed_new line whole end ⊎ ((end ≡ Memory) × Appends taken_old taken_new [])

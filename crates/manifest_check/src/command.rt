@@ -1,5 +1,5 @@
 //! The check.
-ghost use Rattle.std.specs.Prelude.{◌≡◌, ℕ, ◌≤◌, List, Option, length, IfOk};
+ghost use Rattle.std.specs.Prelude.{◌≡◌, ◌≢◌, ℕ, ◌≤◌, List, Option, length, IfOk};
 ghost use Rattle.std.specs.Io.KnownBytes.{Consumes};
 ghost use Rattle.http_session.specs.Session.{IsAll};
 ghost use Rattle.manifest_check.specs.Checks.{ends_of, Leaves, AreLater, IsComplete, Sent, Answers};
@@ -21,7 +21,7 @@ pub enum CheckEnd {
     ReadFault,
     /// A write failed behind a part of the line.
     WriteFault,
-    /// Memory is wanting. Nothing was written.
+    /// Out of memory. Nothing was written.
     Memory,
 }
 
@@ -29,6 +29,7 @@ pub enum CheckEnd {
 fn send<K: Sink>(sink: &mut K, line: &[u8], whole: CheckEnd) -> CheckEnd
     ensures sent { Sent (K.taken sink.old) (K.taken sink.new) (K.faults sink.old) (K.faults sink.new) line.now whole result }
     ensures later { K.faults sink.old ≤ K.faults sink.new }
+    ensures calm { result ≢ CheckEnd.WriteFault → K.faults sink.new ≡ K.faults sink.old }
 {
     if write_whole(sink, line) {
         whole
@@ -37,11 +38,12 @@ fn send<K: Sink>(sink: &mut K, line: &[u8], whole: CheckEnd) -> CheckEnd
     }
 }
 
-/// Writes a line that was made. Where memory was wanting for it, nothing is written.
+/// Writes a line that was made. Out of memory for it, nothing is written.
 fn send_made<K: Sink>(sink: &mut K, line: Result<Vec<u8>, AllocError>, whole: CheckEnd) -> CheckEnd
     ensures sent { (due : List ℕ) → IfOk line (λ made. made.items ≡ due)
         → Answers (K.taken sink.old) (K.taken sink.new) (K.faults sink.old) (K.faults sink.new) due whole result }
     ensures later { K.faults sink.old ≤ K.faults sink.new }
+    ensures calm { result ≢ CheckEnd.WriteFault → K.faults sink.new ≡ K.faults sink.old }
 {
     match line {
         Ok(line) => send(sink, line.as_slice(), whole),
@@ -55,6 +57,7 @@ fn answer<K: Sink>(alloc: Global, bytes: &[u8], sink: &mut K) -> CheckEnd
         → Consumes left rest bytes.now → IsAll left bytes.now → length bytes.now ≤ 65536
         → Leaves (ends_of left failed (K.taken sink.old) (K.faults sink.old)) (ends_of rest now (K.taken sink.new) (K.faults sink.new)) result }
     ensures later { K.faults sink.old ≤ K.faults sink.new }
+    ensures calm { result ≢ CheckEnd.WriteFault → K.faults sink.new ≡ K.faults sink.old }
 {
     match check_body(alloc, bytes) {
         Ok(manifest) => send_made(sink, manifest_line(alloc, &manifest), CheckEnd::Done),
@@ -80,6 +83,8 @@ fn check_in<S: Source, K: Sink>(
     ensures later { AreLater
         (ends_of (S.left source.old) (S.faults source.old) (K.taken sink.old) (K.faults sink.old))
         (ends_of (S.left source.new) (S.faults source.new) (K.taken sink.new) (K.faults sink.new)) }
+    ensures calm { result ≢ CheckEnd.WriteFault → K.faults sink.new ≡ K.faults sink.old }
+    ensures calm_source { result ≢ CheckEnd.ReadFault → S.faults source.new ≡ S.faults source.old }
 {
     match read_into(room, source) {
         Reading::End(count) => answer(alloc, &room[..count], sink),
@@ -91,7 +96,8 @@ fn check_in<S: Source, K: Sink>(
 /// Reads one manifest from the source, and writes one line to the sink: the manifest with its defaults, or why it is
 /// refused.
 ///
-/// The input is read to its end. One of more than 65,536 bytes is refused behind the byte that is too many.
+/// The input is read to its end. One of more than 65,536 bytes is refused behind the byte that is too many. A read or a write that
+/// fails ends the check, and is not tried again.
 #[tactic(auto, using(crate::proofs::Complete::complete))]
 pub fn check<S: Source, K: Sink>(alloc: Global, source: &mut S, sink: &mut K) -> CheckEnd
     ensures leaves { Leaves
@@ -101,6 +107,8 @@ pub fn check<S: Source, K: Sink>(alloc: Global, source: &mut S, sink: &mut K) ->
     ensures later { AreLater
         (ends_of (S.left source.old) (S.faults source.old) (K.taken sink.old) (K.faults sink.old))
         (ends_of (S.left source.new) (S.faults source.new) (K.taken sink.new) (K.faults sink.new)) }
+    ensures calm { result ≢ CheckEnd.WriteFault → K.faults sink.new ≡ K.faults sink.old }
+    ensures calm_source { result ≢ CheckEnd.ReadFault → S.faults source.new ≡ S.faults source.old }
     ensures complete { IsComplete
         (ends_of (S.left source.old) (S.faults source.old) (K.taken sink.old) (K.faults sink.old))
         (ends_of (S.left source.new) (S.faults source.new) (K.taken sink.new) (K.faults sink.new))

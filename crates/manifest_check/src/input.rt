@@ -1,5 +1,5 @@
 //! Reading the input.
-ghost use Rattle.std.specs.Prelude.{◌≡◌, ◌<◌, ◌≤◌, length, take, drop, IfOk};
+ghost use Rattle.std.specs.Prelude.{◌≡◌, ◌≢◌, ◌<◌, ◌≤◌, length, take, drop, IfOk};
 ghost use Rattle.std.specs.Vec.{vec_len};
 ghost use Rattle.serve_io.specs.Causes.{HasCause};
 ghost use Rattle.serve_io.specs.Source.{ReadTakes};
@@ -35,6 +35,7 @@ fn read_behind<S: Source>(room: &mut [u8], at: usize, source: &mut S) -> ReadAns
     ensures bytes { ReadTakes (S.left source.old) (S.left source.new) (drop at room.new) result }
     ensures before { take at room.new ≡ take at room.old }
     ensures cause { HasCause (S.faults source.old) (S.faults source.new) (result ≡ ReadAnswer.Failed) }
+    ensures calm { result ≢ ReadAnswer.Failed → S.faults source.new ≡ S.faults source.old }
 {
     source.read(&mut room[at..])
 }
@@ -43,6 +44,7 @@ fn read_behind<S: Source>(room: &mut [u8], at: usize, source: &mut S) -> ReadAns
 pub(crate) fn read_into<S: Source>(room: &mut [u8], source: &mut S) -> Reading
     ensures bytes { Reads (S.left source.old) (S.left source.new) (S.faults source.old) (S.faults source.new) room.new result }
     ensures later { S.faults source.old ≤ S.faults source.new }
+    ensures calm { result ≢ Reading.Failed → S.faults source.new ≡ S.faults source.old }
 {
     let mut count = 0;
     'reads: while count < room.len() {

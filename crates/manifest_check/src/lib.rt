@@ -7,6 +7,3 @@ mod input;
 mod lines;
 
 pub use command::{CheckEnd, check};
-
-#[cfg(test)]
-mod tests;

@@ -10,3 +10,8 @@ use Rattle.json_tree.specs.declared.read.JsonError.TheVariants.{Memory}
 abbrev pub IsBody : List ℕ → Option Json → Type 0
 IsBody bytes None = (error : JsonError) × (error ≢ Memory) × IsRefusedFor bytes error
 IsBody bytes (Some json) = IsReading bytes (data_of json) × IsTrue (is_well_formed json) × (depth_of json ≤ 32)
+
+-- a value as a body may have it: well formed, and at most 32 deep
+pub record IsReadable (json : Json) : Type 0 where
+  pub well : IsTrue (is_well_formed json)
+  pub deep : depth_of json ≤ 32

@@ -89,18 +89,15 @@ abbrev pub one_of_three : Option ClientKind → Result ClientKind ManifestRefusa
 one_of_three None = Err (Mismatch part.Kind)
 one_of_three (Some kind) = Ok kind
 
--- The kind that an object says by itself, in the version of the API. Where its `apiVersion` and its `kind` are texts, a kind that isn't one
--- of the three comes first, then another API or version, and what else is wrong with it after both.
+-- the kind that an object says by itself: its `apiVersion` and its `kind` are texts, and this is one of the three
 unfoldable pub kind_said : Json → Result ClientKind ManifestRefusal
 kind_said json = do
   body ← shaped (object field.Body (out-Json json))
   api ← shaped (text field.ApiVersion (under (codes "apiVersion") body))
   word ← shaped (text field.Kind (under (codes "kind") body))
-  kind ← one_of_three (kind_named word)
-  fits ← keeps (bytes_eq api api_version) (Mismatch part.ApiVersion)
-  Ok kind
+  one_of_three (kind_named word)
 
--- the manifest that a value gives by itself, or why it is refused
+-- the manifest that a value gives by itself, or why it is refused: its kind comes first, and all else is as where an object is made
 unfoldable pub checked : Json → Result Manifest ManifestRefusal
 checked json = do
   kind ← kind_said json

@@ -10,7 +10,7 @@ use crate::matching::Purpose;
 use crate::refusal::{IntakeError, ManifestRefusal, Part};
 use json_tree::{Json, Members, Text};
 use resource_codec::Field;
-use resource_types::{ClientKind, Manifest, api_version};
+use resource_types::{ClientKind, Manifest};
 use std::alloc::Global;
 
 fn kind_named(word: &Text) -> Option<ClientKind>
@@ -24,7 +24,7 @@ fn kind_named(word: &Text) -> Option<ClientKind>
     }
 }
 
-/// The kind that a value says, in the version of the API.
+/// The kind that a value says by itself.
 #[tactic(auto, unfolding(crate::specs::Intake::kind_said))]
 fn kind_in(json: &Json) -> Result<ClientKind, ManifestRefusal>
     ensures { result ≡ spec.kind_said json.now }
@@ -33,19 +33,17 @@ fn kind_in(json: &Json) -> Result<ClientKind, ManifestRefusal>
         Json::Obj(members) => members,
         _ => return Err(ManifestRefusal::WrongShape(Field::Body)),
     };
-    let api = match members.get("apiVersion") {
-        Some(Json::Str(api)) => api,
+    match members.get("apiVersion") {
+        Some(Json::Str(_)) => {}
         _ => return Err(ManifestRefusal::WrongShape(Field::ApiVersion)),
-    };
+    }
     let word = match members.get("kind") {
         Some(Json::Str(word)) => word,
         _ => return Err(ManifestRefusal::WrongShape(Field::Kind)),
     };
-    let kind = kind_named(word).ok_or(ManifestRefusal::Mismatch(Part::Kind))?;
-    if api.is(api_version()) {
-        Ok(kind)
-    } else {
-        Err(ManifestRefusal::Mismatch(Part::ApiVersion))
+    match kind_named(word) {
+        Some(kind) => Ok(kind),
+        None => Err(ManifestRefusal::Mismatch(Part::Kind)),
     }
 }
 
@@ -60,7 +58,8 @@ fn check_value(alloc: Global, json: &Json) -> Result<Manifest, IntakeError>
 
 /// The manifest that the bytes of a body give by themselves, with its defaults. Its kind is the one that it says; any
 /// namespace that is a label fits. It is refused for the first reason that holds: behind the texts `apiVersion` and `kind` a
-/// kind that isn't one of the three, then another API or version, and then as a manifest that is to make an object is.
+/// kind that isn't one of the three, and then as a manifest that is to make an object is: the rest of its shape, another
+/// `apiVersion`, and so on.
 pub fn check_body(alloc: Global, bytes: &[u8]) -> Result<Manifest, IntakeError>
     ensures checks { spec.Checks bytes.now result }
     // The manifest can be written.

@@ -14,7 +14,7 @@ use Rattle.resource_types.specs.declared.names.Actor.{Actor}
 use Rattle.resource_types.specs.declared.objects.Object.{Object}
 use Rattle.resource_types.specs.contracts.names.KeyOrd.TheImpl as key_order
 use Rattle.resource_types.specs.contracts.item.ObjectItem.TheImpl as object_item
-use Rattle.resource_types.specs.Lookups.{Log, state, find}
+use Rattle.resource_types.specs.Lookups.{Journal, state, find}
 use Rattle.resource_codec.specs.Views.{AreStamped, stood_at, is_born, event_json, event_of}
 
 equal-self : (n m : ℕ) → n ≡ m → (n == m) ≡ true
@@ -26,7 +26,7 @@ equal-less n m lt = grind (arith, lt)
 take-short : {X : Type 0} (n : ℕ) (xs : List X) → length (take n xs) ≤ n
 take-short n xs = omega (arith, length-take n xs)
 
-born_by : (before : Log) (standing : Option Object) (o : Object) (n : ℕ) (key : Key) (moment : ℕ) → length before ≤ n → ((s : Object) → standing ≡ Some s → StandsIn object_item.ghosts key_order.ghosts.cmp before s)
+born_by : (before : Journal) (standing : Option Object) (o : Object) (n : ℕ) (key : Key) (moment : ℕ) → length before ≤ n → ((s : Object) → standing ≡ Some s → StandsIn object_item.ghosts key_order.ghosts.cmp before s)
     → IsStamped object_item.ghosts standing (n + 1) key (Some o) moment → (o.meta.stamp.uid == n + 1) ≡ not (is_some standing)
 born_by before None o n key moment short stands s = equal-self o.meta.stamp.uid (n + 1) (ap (λ t. t.uid) s.1)
 born_by before (Some old) o n key moment short stands s =
@@ -40,7 +40,7 @@ event_by : (key : Key) (version : ℕ) (object : Option Object) (made : Bool) �
 event_by key version None made h = refl
 event_by key version (Some o) made h = ap (λ (b : Bool). event_json key version b (Some o)) (h o refl)
 
-born_with : (key : Key) (n moment : ℕ) (before : Log) (object : Option Object) (o : Object) → object ≡ Some o → length before ≤ n → AreStamped before
+born_with : (key : Key) (n moment : ℕ) (before : Journal) (object : Option Object) (o : Object) → object ≡ Some o → length before ≤ n → AreStamped before
     → IsStamped object_item.ghosts (find key (state before)) (n + 1) key object moment → is_born (n + 1) object ≡ not (is_some (find key (state before)))
 born_with key n moment before None o e short all s = absurd cc
 born_with key n moment before (Some x) o e short all s =
@@ -48,7 +48,7 @@ born_with key n moment before (Some x) o e short all s =
     (λ old f. found_stands object_item.ghosts key_order.ghosts.cmp before key (state before) old (state_stands object_item.ghosts key_order.ghosts.cmp before all) f) s
 
 -- the stamp tells whether an entry made what it put
-pub event_told : (journal : Log) (n : ℕ) (entry : Entry Object Kind Key Name Actor) → AreStamped journal → slice_get journal n ≡ Some entry
+pub event_told : (journal : Journal) (n : ℕ) (entry : Entry Object Kind Key Name Actor) → AreStamped journal → slice_get journal n ≡ Some entry
     → event_json entry.key (n + 1) (is_born (n + 1) entry.object) entry.object ≡ event_of journal (n, entry)
 event_told journal n entry all at =
     let before = take n journal in

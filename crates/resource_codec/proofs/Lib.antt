@@ -7,6 +7,7 @@ pub mod Inner
 pub mod Again
 pub mod Well
 pub mod Shown
+pub mod Storing
 pub mod Forms
 pub mod Places
 pub mod Born

@@ -1,6 +1,7 @@
 -- What a poll tells, entry by entry; and what polls and lists show is well formed.
 use Rattle.std.proofs.Common.{◌≡◌, ℕ, suc, ◌+◌, ◌<◌, ◌≤◌, List, [], ◌∷◌, ◌++◌, take, drop, length, length-append, map, get_or, Bool, true, false, cond, Option, Some, None, refl, sym, ap, ◌∙◌, arith, append_assoc}
-use Rattle.std.specs.Prelude.{slice_get, option_map, unwrap_or}
+use Rattle.std.specs.Prelude.{slice_get, bytes_eq, option_map, unwrap_or}
+use Rattle.std.specs.Cmp.Lexicographic.{nat_list_eq_equiv}
 use Rattle.std.specs.List.{All, filter, enumerate_from}
 use Rattle.std.specs.Option.{ForSome}
 use Rattle.std.specs.declared.cmp.Ordering.{Ordering}
@@ -13,13 +14,14 @@ use Rattle.json_tree.specs.Tree.{items_data, items_are_well}
 use Rattle.json_tree.specs.declared.value.Json.{Json}
 use Rattle.version_store.specs.declared.write.Entry.{Entry}
 use Rattle.version_store.specs.State as store
+use Rattle.version_store.proofs.SpanRange.{filter-alike}
 use Rattle.resource_types.specs.declared.names.Kind.{Kind}
 use Rattle.resource_types.specs.declared.names.Key.{Key}
 use Rattle.resource_types.specs.declared.names.Name.{Name}
 use Rattle.resource_types.specs.declared.names.Actor.{Actor}
 use Rattle.resource_types.specs.declared.objects.Object.{Object}
 use Rattle.resource_types.specs.contracts.names.KeyOrd.TheImpl as key_order
-use Rattle.resource_types.specs.Lookups.{Log, state, of_kind}
+use Rattle.resource_types.specs.Lookups.{Journal, state, of_kind, in_space}
 use Rattle.resource_types.proofs.Lists.{drop_at}
 use Rattle.resource_codec.specs.Sound.{Fits}
 use Rattle.resource_codec.specs.Objects.{encoded}
@@ -31,7 +33,7 @@ use Rattle.resource_codec.proofs.Forms.{put_event_fits, removal_fits}
 
 -- ---- entry by entry
 
-module _ (journal : Log) (kind : Kind) (space : Option (List ℕ)) where
+module _ (journal : Journal) (kind : Kind) (space : Option (List ℕ)) where
   -- what is left from an entry on has it first where its key is asked for
   pub changes-next : (k : ℕ) (entry : Entry Object Kind Key Name Actor) (b : Bool) → k < length journal → entry ≡ get_or journal k entry → b ≡ is_asked kind space entry.key
       → changes_after journal kind space k ≡ cond b ((k, entry) ∷ changes_after journal kind space (k + 1)) (changes_after journal kind space (k + 1))
@@ -45,16 +47,16 @@ module _ (journal : Log) (kind : Kind) (space : Option (List ℕ)) where
   changes-end k le = ap (λ es. filter (λ p. is_asked kind space p.1.key) (enumerate_from k es)) (drop_all k journal le)
 
 -- the events are those of the first changes after a position, and what is left begins at the place k
-pub record IsToldTo (journal : Log) (kind : Kind) (space : Option (List ℕ)) (after : ℕ) (events : List Json) (k : ℕ) : Type 0 where
+pub record IsToldTo (journal : Journal) (kind : Kind) (space : Option (List ℕ)) (after : ℕ) (events : List Json) (k : ℕ) : Type 0 where
   pub told : events ≡ map (event_of journal) (take (length events) (changes_after journal kind space after))
   pub rest : drop (length events) (changes_after journal kind space after) ≡ changes_after journal kind space k
 
 -- the events are all that a poll has, and the version is the one up to which it tells
-pub record IsPolled (journal : Log) (kind : Kind) (space : Option (List ℕ)) (after : ℕ) (told : List Json) (end : ℕ) : Type 0 where
+pub record IsPolled (journal : Journal) (kind : Kind) (space : Option (List ℕ)) (after : ℕ) (told : List Json) (end : ℕ) : Type 0 where
   pub events : told ≡ map (event_of journal) (take most_events (changes_after journal kind space after))
   pub version : end ≡ told_version journal (changes_after journal kind space after)
 
-module _ (journal : Log) (kind : Kind) (space : Option (List ℕ)) (after : ℕ) where
+module _ (journal : Journal) (kind : Kind) (space : Option (List ℕ)) (after : ℕ) where
   abbrev changes : List Place
   changes = changes_after journal kind space after
 
@@ -106,16 +108,21 @@ module _ (journal : Log) (kind : Kind) (space : Option (List ℕ)) (after : ℕ)
         version = sym (ap (λ p. unwrap_or (option_map (λ (p : Place). p.0 + 1) p) (length journal)) (none_ended changes (length events) 255 ended least));
       }
 
--- what is left of the objects from one on has it first where it is asked for
-items_by : (b : Bool) (items : List Json) (o : Object) (later : List Object) → items ++ map encoded (cond b (o ∷ later) later) ≡ cond b (items ++ encoded o ∷ []) items ++ map encoded later
-items_by true items o later = sym (append_assoc items (encoded o ∷ []) (map encoded later))
-items_by false items o later = refl
+-- the form of the object at a place comes before those of the objects behind it
+pub form-next : (objects : List Object) (k : ℕ) (o : Object) (items : List Json) → slice_get objects k ≡ Some o
+    → (items ++ encoded o ∷ []) ++ map encoded (drop (k + 1) objects) ≡ items ++ map encoded (drop k objects)
+form-next objects k o items at =
+    append_assoc items (encoded o ∷ []) (map encoded (drop (k + 1) objects)) ∙ ap (λ os. items ++ map encoded os) (sym (drop_at objects k o at))
 
-pub items-next : (test : Object → Bool) (objects : List Object) (k : ℕ) (o : Object) (items : List Json) (b : Bool) → slice_get objects k ≡ Some o → b ≡ test o
-    → cond b (items ++ encoded o ∷ []) items ++ map encoded (filter test (drop (k + 1) objects)) ≡ items ++ map encoded (filter test (drop k objects))
-items-next test objects k o items b at e =
-    let later = filter test (drop (k + 1) objects) in
-    sym (items_by b items o later) ∙ ap (λ (t : Bool). items ++ map encoded (cond t (o ∷ later) later)) e ∙ ap (λ os. items ++ map encoded (filter test os)) (sym (drop_at objects k o at))
+-- where no namespace is asked for, all objects of the kind are
+pub all_asked : (objects : List Object) → objects ≡ filter (λ (o : Object). is_within None o.key.name.space) objects
+all_asked [] = refl
+all_asked (o ∷ objects) = ap (λ os. o ∷ os) (all_asked objects)
+
+-- where one is, those in it
+pub space_asked : (space : List ℕ) (objects : List Object) → in_space space objects ≡ filter (λ (o : Object). is_within (Some space) o.key.name.space) objects
+space_asked space objects =
+    filter-alike (λ (o : Object). bytes_eq o.key.name.space space) (λ o. bytes_eq space o.key.name.space) objects (λ o. nat_list_eq_equiv.symm o.key.name.space space)
 
 -- ---- well formed
 
@@ -135,18 +142,18 @@ event_json_fits : (key : Key) (version : ℕ) (made : Bool) (object : Option Obj
 event_json_fits key version made None h = more 1 41 (Some _) (omega arith) (removal_fits key version)
 event_json_fits key version made (Some o) h = put_event_fits o made (h o refl).well
 
-event_fits : (journal : Log) (p : Place) → ShowsWell p.1 → Fits 41 (event_of journal p)
+event_fits : (journal : Journal) (p : Place) → ShowsWell p.1 → Fits 41 (event_of journal p)
 event_fits journal p h = event_json_fits p.1.key (p.0 + 1) _ p.1.object h
 
 abbrev PlaceShown : Place → Type 0
 PlaceShown p = ShowsWell p.1
 
-shown_places : (n : ℕ) (entries : Log) → All ShowsWell entries → All PlaceShown (enumerate_from n entries)
+shown_places : (n : ℕ) (entries : Journal) → All ShowsWell entries → All PlaceShown (enumerate_from n entries)
 shown_places n [] all = All-nil PlaceShown
 shown_places n (x ∷ xs) all = All-cons PlaceShown (n, x) (enumerate_from (n + 1) xs) (All-head ShowsWell x xs all) (shown_places (n + 1) xs (All-tail ShowsWell x xs all))
 
 -- the events of a poll are well formed
-pub events_fit : (journal : Log) (kind : Kind) (space : Option (List ℕ)) (after most : ℕ) → AreShown journal → ItemsFit 41 (map (event_of journal) (take most (changes_after journal kind space after)))
+pub events_fit : (journal : Journal) (kind : Kind) (space : Option (List ℕ)) (after most : ℕ) → AreShown journal → ItemsFit 41 (map (event_of journal) (take most (changes_after journal kind space after)))
 events_fit journal kind space after most shown =
     let places = enumerate_from after (drop after journal) in
     items_fit (event_of journal) 41 PlaceShown (event_fits journal) (take most (changes_after journal kind space after))
@@ -180,7 +187,7 @@ changed_shown : (key : Key) (object : Option Object) (xs : List Object) → ForS
 changed_shown key None xs h all = without_shown key xs all
 changed_shown key (Some o) xs h all = put_shown o xs (h o refl) all
 
-state_from_shown : (st : List Object) (entries : Log) → All IsShown st → All ShowsWell entries → All IsShown (store.state_from key_of_object key_order.ghosts.cmp st entries)
+state_from_shown : (st : List Object) (entries : Journal) → All IsShown st → All ShowsWell entries → All IsShown (store.state_from key_of_object key_order.ghosts.cmp st entries)
 state_from_shown st [] all shown = all
 state_from_shown st (x ∷ xs) all shown =
     state_from_shown (store.changed key_of_object key_order.ghosts.cmp x.key x.object st) xs (changed_shown x.key x.object st (All-head ShowsWell x xs shown) all) (All-tail ShowsWell x xs shown)
@@ -189,7 +196,7 @@ object_fits : (o : Object) → IsShown o → Fits 40 (encoded o)
 object_fits o s = encoded_fits o s.well
 
 -- the items of a list are well formed
-pub objects_fit : (journal : Log) (kind : Kind) (space : Option (List ℕ)) → AreShown journal → ItemsFit 40 (map encoded (objects_asked journal kind space))
+pub objects_fit : (journal : Journal) (kind : Kind) (space : Option (List ℕ)) → AreShown journal → ItemsFit 40 (map encoded (objects_asked journal kind space))
 objects_fit journal kind space shown =
     items_fit encoded 40 IsShown object_fits (objects_asked journal kind space)
     (All-filter (λ o. is_within space o.key.name.space) IsShown (of_kind kind (state journal)) (All-filter _ IsShown (state journal) (state_from_shown [] journal (All-nil IsShown) shown)))

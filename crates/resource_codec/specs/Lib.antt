@@ -3,6 +3,7 @@ pub mod Shape
 pub mod Paths
 pub mod Written
 pub mod Sound
+pub mod Storable
 pub mod Objects
 pub mod Lists
 pub mod Views

@@ -4,7 +4,7 @@ ghost use Rattle.serde_json.specs.Written.{compact_text};
 ghost use Rattle.json_tree.specs.Tree.{is_well_formed, depth_of, data_of};
 ghost use Rattle.resource_codec.specs.Written.{metadata_members, manifest_metadata, spec_members, written, kind_of, IsRegular, IsWell};
 ghost use Rattle.resource_codec.specs.Shape.{shape};
-ghost use Rattle.resource_codec.specs.Sound.{RestOfSpecFits};
+ghost use Rattle.resource_codec.specs.Sound.{Fits, RestOfSpecFits};
 
 use crate::adding::{add_text, add_texts};
 use crate::writing::{configuration_spec, document, route_spec, service_spec};
@@ -56,12 +56,12 @@ fn spec_members(alloc: Global, spec: &ManifestSpec) -> Result<Members, AllocErro
 }
 
 /// The law that texts tell manifests apart: two regular manifests have the same written bytes exactly where they are
-/// equal.
+/// equal. Their written forms are well formed, and at most 64 deep, as a value has to be that is written.
 pub fn have_same_bytes(alloc: Global, one: &Manifest, two: &Manifest) -> Result<bool, AllocError>
     requires one_regular { IsRegular one.now }
     requires two_regular { IsRegular two.now }
-    requires one_well { IsWell one.now }
-    requires two_well { IsWell two.now }
+    requires one_fits { Fits 64 (written one.now) }
+    requires two_fits { Fits 64 (written two.now) }
     ensures bytes { IfOk result (λ same. IsTrue same
         ↔ (compact_text (data_of (written one.now)) ≡ compact_text (data_of (written two.now)))) }
     ensures value { IfOk result (λ same. IsTrue same ↔ (one.now ≡ two.now)) }

@@ -8,8 +8,7 @@ use crate::events::{poll_form, put_event, removal_event};
 use json_tree::{Json, Seq, Text};
 use resource_types::{Key, Kind, Object};
 use std::alloc::{AllocError, Global};
-use version_store::store::Store;
-use version_store::write::Entry;
+use version_store::{Entry, Store};
 
 // How many events a poll has at most.
 const MOST_EVENTS: usize = 256;

@@ -7,11 +7,10 @@ ghost use Rattle.resource_codec.specs.Views.{objects_asked, list_of, AreShown};
 
 use crate::lists::list_json;
 use crate::objects::encode;
-use crate::polls::is_within;
 use json_tree::{Json, Seq, Text};
-use resource_types::{Kind, Object, object_at};
+use resource_types::{Kind, Object, walk_space};
 use std::alloc::{AllocError, Global};
-use version_store::store::Store;
+use version_store::{Store, Walk};
 
 /// The list of a kind: the objects of the kind that stand, and in the namespace where one is given, in order of name.
 ///
@@ -30,6 +29,7 @@ pub fn list_of(
     list_json(alloc, kind, items, store.version())
 }
 
+// The forms of the objects that are asked for. A namespace is found by a search, and no other one is read.
 fn items_of(
     alloc: Global,
     store: &Store<Object>,
@@ -38,12 +38,19 @@ fn items_of(
 ) -> Result<Seq<Json>, AllocError>
     ensures { IfOk result (λ js. js ≡ map encoded (objects_asked store.now.entries kind (option_copied space.entry))) }
 {
+    match space {
+        Some(space) => forms_of(alloc, &walk_space(store, kind, space.as_str())),
+        None => forms_of(alloc, &store.walk(kind)),
+    }
+}
+
+// The forms of the objects of a walk.
+fn forms_of(alloc: Global, objects: &Walk<'_, Object>) -> Result<Seq<Json>, AllocError>
+    ensures { IfOk result (λ js. js ≡ map encoded objects.now) }
+{
     let mut items = Seq::new(alloc);
-    for place in 0..store.count(kind) {
-        let object = object_at(store, kind, place);
-        if is_within(space, &object.key.name.space) {
-            items.push(encode(alloc, object)?)?;
-        }
+    for place in 0..objects.len() {
+        items.push(encode(alloc, objects.at(place))?)?;
     }
     Ok(items)
 }

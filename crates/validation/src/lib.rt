@@ -18,6 +18,3 @@ pub use change::{KeptName, check_change};
 pub use defaults::with_defaults;
 pub use places::{Invalid, Place, Rule, place_text, rule_text};
 pub use rules::check;
-
-#[cfg(test)]
-mod tests;

@@ -1,9 +1,9 @@
 use Rattle.std.proofs.Common.{arith}
-use Rattle.api_calls.proofs.Kept.{shown_all}
+use Rattle.resource_codec.proofs.Storing.{all_shown}
 use Rattle.api_calls.proofs.reads.polling.Goals as goal
 
 pub reply_of-requires-clause-well : goal.reply_of-requires-clause-well
-reply_of-requires-clause-well c = (c.in_ok-poll.ensures.well (shown_all c.args.store.now.entries c.requires)).0
+reply_of-requires-clause-well c = (c.in_ok-poll.ensures.well (all_shown c.args.store.now.entries c.requires)).0
 
 pub reply_of-requires-clause-depth : goal.reply_of-requires-clause-depth
-reply_of-requires-clause-depth c = omega (arith, (c.in_ok-poll.ensures.well (shown_all c.args.store.now.entries c.requires)).1)
+reply_of-requires-clause-depth c = omega (arith, (c.in_ok-poll.ensures.well (all_shown c.args.store.now.entries c.requires)).1)

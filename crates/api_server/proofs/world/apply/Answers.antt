@@ -1,13 +1,15 @@
 use Rattle.std.proofs.Common.{sym, subst}
-use Rattle.api_replies.specs.Kept.{AreKept}
-use Rattle.api_server.proofs.Kept.{written_kept}
+use Rattle.resource_types.specs.Lookups.{state}
+use Rattle.resource_codec.specs.Storable.{AreStorable}
+use Rattle.resource_codec.proofs.Storing.{written_storable}
+use Rattle.api_server.proofs.Changes.{change_storable}
 use Rattle.api_server.proofs.world.apply.Goals as goal
 
--- src/world.rt:33:20
 pub apply-applied-requires-clause-key : goal.apply-applied-requires-clause-key
 apply-applied-requires-clause-key c = (c.requires.plan c.in-Some.plan c.in-Some.is).makeable.key
 
--- src/world.rt:23:1
-pub returns-in-Some-clause-kept : goal.returns-in-Some-clause-kept
-returns-in-Some-clause-kept c =
-    subst AreKept (sym c.apply-applied.ensures.entries) (written_kept c.args.store.now.entries _ c.requires.kept (c.requires.plan c.in-Some.plan c.in-Some.is).kept)
+pub returns-in-Some-clause-storable : goal.returns-in-Some-clause-storable
+returns-in-Some-clause-storable c =
+    let made = c.requires.plan c.in-Some.plan c.in-Some.is in
+    subst AreStorable (sym c.apply-applied.ensures.entries)
+    (written_storable c.args.store.now.entries _ c.requires.storable (change_storable (state c.args.store.now.entries) c.in-Some.plan.key c.in-Some.plan.change made.change))

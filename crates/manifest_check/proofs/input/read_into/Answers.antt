@@ -1,4 +1,4 @@
-use Rattle.std.proofs.Common.{arith, refl, length-drop}
+use Rattle.std.proofs.Common.{◌∙◌, arith, refl, length-drop}
 use Rattle.manifest_check.proofs.Inputs.{reads_more, reads_end, reads_fault}
 use Rattle.manifest_check.proofs.input.read_into.Goals as goal
 
@@ -6,6 +6,7 @@ pub reads-preserved : goal.reads-preserved
 reads-preserved g c = record {
   within = omega (arith, c.in-Got.ensures.bytes.1, length-drop c.reads.count c.read_behind.new.room);
   consumed = reads_more _ _ _ c.reads.room c.read_behind.new.room c.reads.count c.in-Got.more c.reads.invariant.consumed c.read_behind.ensures.before c.in-Got.ensures.bytes.2;
+  calm = c.in-Got.ensures.calm (λ e. cc) ∙ c.reads.invariant.calm;
   later = omega (arith, c.reads.invariant.later, c.read_behind.ensures.cause.later);
 }
 

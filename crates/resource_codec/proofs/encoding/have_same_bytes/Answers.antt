@@ -1,12 +1,24 @@
-use Rattle.std.proofs.Common.{◌≡◌, ◌↔◌, true, sym, ap, subst, ◌∙◌}
+use Rattle.std.proofs.Common.{◌≡◌, ◌↔◌, ◌≤◌, true, sym, ap, subst, ◌∙◌}
 use Rattle.std.specs.Prelude.{IfOk}
 use Rattle.std.proofs.lemmas.Result.{IfOk-weaker}
 use Rattle.serde_json.specs.Written.{compact_text}
-use Rattle.json_tree.specs.Tree.{data_of}
+use Rattle.json_tree.specs.Tree.{data_of, is_well_formed, depth_of}
 use Rattle.json_tree.specs.declared.value.Json.{Json}
 use Rattle.resource_codec.specs.Written.{written}
 use Rattle.resource_codec.proofs.Again.{written_tells}
 use Rattle.resource_codec.proofs.encoding.have_same_bytes.Goals as goal
+
+pub have_same_text-requires-clause-one_well : goal.have_same_text-requires-clause-one_well
+have_same_text-requires-clause-one_well c = subst (λ (j : Json). is_well_formed j ≡ true) (sym c.in_ok-one_json.ensures.written) c.requires.one_fits.well
+
+pub have_same_text-requires-clause-two_well : goal.have_same_text-requires-clause-two_well
+have_same_text-requires-clause-two_well c = subst (λ (j : Json). is_well_formed j ≡ true) (sym c.in_ok-two_json.ensures.written) c.requires.two_fits.well
+
+pub have_same_text-requires-clause-one_depth : goal.have_same_text-requires-clause-one_depth
+have_same_text-requires-clause-one_depth c = subst (λ (j : Json). depth_of j ≤ 64) (sym c.in_ok-one_json.ensures.written) c.requires.one_fits.deep
+
+pub have_same_text-requires-clause-two_depth : goal.have_same_text-requires-clause-two_depth
+have_same_text-requires-clause-two_depth c = subst (λ (j : Json). depth_of j ≤ 64) (sym c.in_ok-two_json.ensures.written) c.requires.two_fits.deep
 
 pub returns-clause-bytes : goal.returns-clause-bytes
 returns-clause-bytes c =
