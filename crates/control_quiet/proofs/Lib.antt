@@ -1,0 +1,11 @@
+pub mod Differences
+pub mod Quiet
+pub mod Conditions
+pub mod Revisions
+pub mod Statuses
+pub mod Tables
+pub mod Pins
+pub mod Final
+pub mod Turns
+pub mod Settles
+pub mod Planes
