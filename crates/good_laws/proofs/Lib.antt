@@ -1,0 +1,9 @@
+pub mod Converted
+pub mod Tags
+pub mod Parts
+pub mod Theorems
+pub mod Writes
+pub mod Clients
+pub mod Storing
+pub mod Stored
+pub mod Worked
