@@ -1,0 +1,4 @@
+pub mod Images
+pub mod Firsts
+pub mod Puts
+pub mod Blank

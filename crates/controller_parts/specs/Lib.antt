@@ -1,0 +1,4 @@
+pub mod Names
+pub mod Conditions
+pub mod Plans
+pub mod Views

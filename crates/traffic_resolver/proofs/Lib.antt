@@ -1,0 +1,10 @@
+pub mod FoundInSpace
+pub mod Zips
+pub mod Whole
+pub mod FirstHindrance
+pub mod ShareSums
+pub mod ShareRows
+pub mod Appended
+pub mod ResolutionFound
+pub mod Reasons
+pub mod Rows

@@ -1,0 +1,84 @@
+-- Worked rows by computation: what the targets of Route `hello` in namespace `default` come to.
+use Rattle.std.proofs.Common.{◌≡◌, ℕ, true, List, [], ◌∷◌, ◌++◌, codes, Some, None, refl}
+use Rattle.std.specs.Prelude.{map}
+use Rattle.resource_types.specs.declared.names.Name.{Name}
+use Rattle.resource_types.specs.declared.specification.Row.{Row}
+use Rattle.resource_types.specs.declared.specification.Target.{Target}
+use Rattle.control_rules.specs.declared.traffic.Found.{Found}
+use Rattle.control_rules.specs.declared.traffic.Found.TheVariants as found
+use Rattle.control_rules.specs.declared.traffic.Named.TheVariants as named
+use Rattle.control_rules.specs.declared.traffic.Resolved.{Resolved}
+use Rattle.control_rules.specs.declared.traffic.Resolved.TheVariants.{Assigned, Missing, Unready}
+use Rattle.control_rules.specs.Resolution.{first_hindrance, meant_of, add_share, shares_from, assigned_rows, resolved}
+
+abbrev hello : Name
+hello = record { space = codes "default"; name = codes "hello" }
+
+-- a target on the Revision
+abbrev on : List ℕ → ℕ → List ℕ → Target
+on revision percent tag = record { configuration = []; revision = revision; latest = None; percent = Some percent; tag = tag; url = [] }
+
+-- a target on the latest ready Revision of the Configuration
+abbrev latest_of : List ℕ → ℕ → Target
+latest_of configuration percent = record { configuration = configuration; revision = []; latest = Some true; percent = Some percent; tag = []; url = [] }
+
+-- what is published of a target
+abbrev shown : List ℕ → ℕ → List ℕ → List ℕ → Target
+shown revision percent tag url = record { configuration = []; revision = revision; latest = None; percent = Some percent; tag = tag; url = url }
+
+abbrev row : List ℕ → List ℕ → List ℕ → ℕ → ℕ → Row
+row tag host revision uid percent = record { tag = tag; host = host; revision = revision; uid = uid; percent = percent }
+
+abbrev resolved_to : List (Target × Found) → Resolved
+resolved_to pairs = resolved hello (codes "example.com") pairs
+
+-- ---- two Revisions with 0 and 100: one row, both targets
+
+zero_and_all : resolved_to ((on (codes "a") 0 [], found.Ready (codes "a") 3) ∷ (on (codes "b") 100 [], found.Ready (codes "b") 4) ∷ [])
+    ≡ Assigned (row [] (codes "hello.default.example.com") (codes "b") 4 100 ∷ []) (shown (codes "a") 0 [] [] ∷ shown (codes "b") 100 [] [] ∷ [])
+unfolding resolved first_hindrance meant_of assigned_rows shares_from add_share
+zero_and_all = refl
+
+-- one Revision twice: one row with the sum, in the place of the first
+twice : resolved_to ((on (codes "a") 20 [], found.Ready (codes "a") 3) ∷ (on (codes "b") 50 (codes "new"), found.Ready (codes "b") 4) ∷ (on (codes "a") 30 [], found.Ready (codes "a") 3) ∷ [])
+    ≡ Assigned
+    (row [] (codes "hello.default.example.com") (codes "a") 3 50 ∷ row [] (codes "hello.default.example.com") (codes "b") 4 50 ∷ row (codes "new") (codes "new-hello.default.example.com") (codes "b") 4 100 ∷ [])
+    (shown (codes "a") 20 [] [] ∷ shown (codes "b") 50 (codes "new") (codes "http://new-hello.default.example.com") ∷ shown (codes "a") 30 [] [] ∷ [])
+unfolding resolved first_hindrance meant_of assigned_rows shares_from add_share
+twice = refl
+
+-- ---- sixteen targets with tags on one Revision: one default row, and one of 100 for each tag
+
+abbrev fifteen : List (List ℕ)
+fifteen =
+    codes "b" ∷ codes "c" ∷ codes "d" ∷ codes "e" ∷ codes "f" ∷ codes "g" ∷ codes "h" ∷ codes "i" ∷ codes "j" ∷ codes "k" ∷ codes "l" ∷ codes "m" ∷ codes "n" ∷ codes "o" ∷ codes "p" ∷ []
+
+abbrev tagged : ℕ → List ℕ → Target × Found
+tagged percent tag = (on (codes "v") percent tag, found.Ready (codes "v") 3)
+
+abbrev tagged_row : List ℕ → Row
+tagged_row tag = row tag (tag ++ codes "-hello.default.example.com") (codes "v") 3 100
+
+abbrev tagged_shown : ℕ → List ℕ → Target
+tagged_shown percent tag = shown (codes "v") percent tag (codes "http://" ++ (tag ++ codes "-hello.default.example.com"))
+
+sixteen_tags : resolved_to (tagged 10 (codes "a") ∷ map (tagged 6) fifteen)
+    ≡ Assigned (row [] (codes "hello.default.example.com") (codes "v") 3 100 ∷ map tagged_row (codes "a" ∷ fifteen)) (tagged_shown 10 (codes "a") ∷ map (tagged_shown 6) fifteen)
+unfolding resolved first_hindrance meant_of assigned_rows shares_from add_share
+sixteen_tags = refl
+
+-- ---- the first target that isn't ready decides
+
+first_unready : resolved_to ((on (codes "a") 20 [], found.Ready (codes "a") 3) ∷ (on (codes "b") 30 [], found.RevisionUnready) ∷ (latest_of (codes "c") 50, found.ConfigurationAbsent) ∷ [])
+    ≡ Unready 1 named.Revision (codes "b")
+unfolding resolved first_hindrance
+first_unready = refl
+
+first_absent : resolved_to ((latest_of (codes "c") 50, found.ConfigurationAbsent) ∷ (on (codes "b") 50 [], found.RevisionUnready) ∷ []) ≡ Missing 0 named.Configuration (codes "c")
+unfolding resolved first_hindrance
+first_absent = refl
+
+-- the latest ready Revision of a Configuration was collected since: the name is the Configuration's
+latest_absent : resolved_to ((latest_of (codes "c") 100, found.RevisionAbsent) ∷ []) ≡ Missing 0 named.Revision (codes "c")
+unfolding resolved first_hindrance
+latest_absent = refl
