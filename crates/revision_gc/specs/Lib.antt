@@ -1,0 +1,4 @@
+pub mod Settings
+pub mod Choices
+pub mod Sweeps
+pub mod Laws

@@ -1,0 +1,4 @@
+pub mod ServiceDue
+pub mod ImageSteps
+pub mod Conversions
+pub mod Sentences

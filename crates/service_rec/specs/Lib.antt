@@ -1,0 +1,4 @@
+pub mod Children
+pub mod Sights
+pub mod Laws
+pub mod Targets
