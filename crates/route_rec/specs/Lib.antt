@@ -1,0 +1,5 @@
+pub mod Traffic
+pub mod Pinning
+pub mod Published
+pub mod Spares
+pub mod Laws
