@@ -5,7 +5,7 @@ use Rattle.std.specs.Io.KnownBytes.{Consumes, Appends}
 use Rattle.http_session.specs.Session.{IsAll}
 use Rattle.resource_types.specs.declared.manifests.Manifest.{Manifest}
 use Rattle.manifest_intake.specs.declared.refusal.ManifestRefusal.{ManifestRefusal}
-use Rattle.manifest_intake.specs.declared.refusal.IntakeError.TheVariants as error
+use Rattle.answers.specs.declared.stop.Stop.TheVariants as stop
 use Rattle.manifest_intake.specs.Intake.{Checks}
 use Rattle.manifest_check.specs.declared.command.CheckEnd.{CheckEnd}
 use Rattle.manifest_check.specs.declared.command.CheckEnd.TheVariants.{Done, Refused}
@@ -46,7 +46,7 @@ taken_leaves left rest t t' rf rf' wf wf' bytes manifest end checks took all sho
     answer_leaves old new (manifest_line manifest) Done end bytes (λ written. (manifest_line manifest, due, written)) (inl due) took (omega arith) answers
 
 pub refused_leaves : (left rest t t' : Option (List ℕ)) (rf rf' wf wf' : ℕ) (bytes : List ℕ) (refusal : ManifestRefusal) (end : CheckEnd)
-    → Checks bytes (Err (error.Refused refusal)) → Consumes left rest bytes → IsAll left bytes → length bytes ≤ 65536
+    → Checks bytes (Err (stop.Refused refusal)) → Consumes left rest bytes → IsAll left bytes → length bytes ≤ 65536
     → Answers t t' wf wf' (refusal_line refusal) Refused end → Leaves (ends_of left rf t wf) (ends_of rest rf' t' wf') end
 refused_leaves left rest t t' rf rf' wf wf' bytes refusal end checks took all short answers =
     let old : Ends = ends_of left rf t wf in

@@ -6,7 +6,8 @@ ghost use Rattle.manifest_check.specs.Checks.{ends_of, Leaves, AreLater, IsCompl
 
 use crate::input::{Reading, new_room, read_into};
 use crate::lines::{long_line, manifest_line, refusal_line};
-use manifest_intake::{IntakeError, check_body};
+use answers::Stop;
+use manifest_intake::check_body;
 use serve_io::{Sink, Source, write_whole};
 use std::alloc::{AllocError, Global};
 
@@ -61,10 +62,10 @@ fn answer<K: Sink>(alloc: Global, bytes: &[u8], sink: &mut K) -> CheckEnd
 {
     match check_body(alloc, bytes) {
         Ok(manifest) => send_made(sink, manifest_line(alloc, &manifest), CheckEnd::Done),
-        Err(IntakeError::Refused(refusal)) => {
+        Err(Stop::Refused(refusal)) => {
             send_made(sink, refusal_line(alloc, refusal), CheckEnd::Refused)
         }
-        Err(IntakeError::Memory) => CheckEnd::Memory,
+        Err(Stop::Memory) => CheckEnd::Memory,
     }
 }
 

@@ -4,8 +4,9 @@ ghost use Rattle.json_tree.specs.Tree.{data_of, is_well_formed, depth_of};
 ghost use Rattle.resource_codec.specs.Written.{IsWell};
 ghost use Rattle.manifest_check.specs.Lines as spec;
 
+use api_status::failure;
 use json_tree::{Json, write_json};
-use manifest_intake::{ManifestRefusal, failure};
+use manifest_intake::ManifestRefusal;
 use resource_codec::encode_manifest;
 use resource_types::Manifest;
 use std::alloc::{AllocError, Global};

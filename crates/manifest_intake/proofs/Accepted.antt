@@ -18,6 +18,7 @@ use Rattle.resource_types.specs.Manifests.{api_version, kind_text, manifest_spec
 use Rattle.resource_codec.specs.declared.fields.Field.{Field}
 use Rattle.resource_codec.specs.declared.fields.Field.TheVariants as field
 use Rattle.resource_codec.specs.declared.fields.TargetField.TheVariants as part
+use Rattle.answers.specs.Answers.{requires_that}
 use Rattle.resource_codec.specs.Reading.{◌>>=◌, Member, is_rest, under, object, text, optional_object, optional_text, optional_number, optional_truth, optional_array, optional_texts}
 use Rattle.resource_codec.specs.Shape.{template_in, target_in, targets_in, traffic_in, spec_in, shape}
 use Rattle.resource_codec.specs.Written.{kind_of, HasNoUrls, HasPlainRest, IsPlain}
@@ -28,7 +29,7 @@ use Rattle.validation.proofs.Filled.{defaults_again}
 use Rattle.manifest_intake.specs.declared.refusal.ManifestRefusal.{ManifestRefusal}
 use Rattle.manifest_intake.specs.declared.refusal.Part.TheVariants as part_of
 use Rattle.manifest_intake.specs.declared.refusal.ManifestRefusal.TheVariants.{Mismatch, VersionGiven}
-use Rattle.manifest_intake.specs.Intake.{Purpose, replace, fits_namespace, fits_name, fits_version, keeps, shaped, ruled, matched, accepted}
+use Rattle.manifest_intake.specs.Intake.{Purpose, replace, fits_namespace, fits_name, fits_version, shaped, ruled, matched, accepted}
 use Rattle.manifest_intake.specs.Good.{IsGood, IsAskedBy, asked_of}
 use Rattle.validation.proofs.Lines.{kept_from}
 use Rattle.manifest_intake.proofs.Parts.{IsGoodAt, parts_good}
@@ -152,11 +153,11 @@ shaped_gives : {A : Type 0} (Q : A → Type 0) (r : Result A Field) → IfOk r Q
 shaped_gives Q (Ok x) q = q
 shaped_gives Q (Err e) q = tt
 
-keeps_gives : (holds : Bool) (refusal : ManifestRefusal) → IfOk (keeps holds refusal) (λ done. holds ≡ true)
+keeps_gives : (holds : Bool) (refusal : ManifestRefusal) → IfOk (requires_that holds refusal) (λ done. holds ≡ true)
 keeps_gives true refusal = refl
 keeps_gives false refusal = tt
 
-keeps_all : (P : Unit {0} → Type 0) (holds : Bool) (refusal : ManifestRefusal) → P tt → IfOk (keeps holds refusal) P
+keeps_all : (P : Unit {0} → Type 0) (holds : Bool) (refusal : ManifestRefusal) → P tt → IfOk (requires_that holds refusal) P
 keeps_all P true refusal p = p
 keeps_all P false refusal p = tt
 
@@ -170,10 +171,10 @@ NamesApi m done = m.api ≡ api_version
 matched_gives : (purpose : Purpose) (kind : ClientKind) (m : Manifest) → IfOk (matched purpose kind m) (NamesApi m)
 unfolding matched
 matched_gives purpose kind m =
-    chain (λ done. bytes_eq m.api api_version ≡ true) (NamesApi m) (keeps (bytes_eq m.api api_version) (Mismatch part_of.ApiVersion)) _ (keeps_gives (bytes_eq m.api api_version) (Mismatch part_of.ApiVersion)) (λ api e.
-    step (NamesApi m) (keeps (bytes_eq m.kind (kind_text kind)) (Mismatch part_of.Kind)) _ (λ word.
-    step (NamesApi m) (keeps (fits_namespace purpose m.namespace) (Mismatch part_of.Namespace)) _ (λ namespace.
-    step (NamesApi m) (keeps (fits_name purpose m.name) (Mismatch part_of.Name)) _ (λ name.
+    chain (λ done. bytes_eq m.api api_version ≡ true) (NamesApi m) (requires_that (bytes_eq m.api api_version) (Mismatch part_of.ApiVersion)) _ (keeps_gives (bytes_eq m.api api_version) (Mismatch part_of.ApiVersion)) (λ api e.
+    step (NamesApi m) (requires_that (bytes_eq m.kind (kind_text kind)) (Mismatch part_of.Kind)) _ (λ word.
+    step (NamesApi m) (requires_that (fits_namespace purpose m.namespace) (Mismatch part_of.Namespace)) _ (λ namespace.
+    step (NamesApi m) (requires_that (fits_name purpose m.name) (Mismatch part_of.Name)) _ (λ name.
     keeps_all (NamesApi m) (fits_version purpose m.version) VersionGiven ((bytes_eq-Decides m.api api_version).0 e)))))
 
 accepted_gives : (purpose : Purpose) (kind : ClientKind) (json : Json) → IfOk (accepted purpose kind json) (IsAccepted kind)
@@ -237,10 +238,10 @@ Names name m done = m.name ≡ name
 matched_names : (space name : List ℕ) (kind : ClientKind) (m : Manifest) → IfOk (matched (replace space name) kind m) (Names name m)
 unfolding matched
 matched_names space name kind m =
-    step (Names name m) (keeps (bytes_eq m.api api_version) (Mismatch part_of.ApiVersion)) _ (λ api.
-    step (Names name m) (keeps (bytes_eq m.kind (kind_text kind)) (Mismatch part_of.Kind)) _ (λ word.
-    step (Names name m) (keeps (fits_namespace (replace space name) m.namespace) (Mismatch part_of.Namespace)) _ (λ namespace.
-    chain (λ done. bytes_eq m.name name ≡ true) (Names name m) (keeps (bytes_eq m.name name) (Mismatch part_of.Name)) _ (keeps_gives (bytes_eq m.name name) (Mismatch part_of.Name)) (λ named e.
+    step (Names name m) (requires_that (bytes_eq m.api api_version) (Mismatch part_of.ApiVersion)) _ (λ api.
+    step (Names name m) (requires_that (bytes_eq m.kind (kind_text kind)) (Mismatch part_of.Kind)) _ (λ word.
+    step (Names name m) (requires_that (fits_namespace (replace space name) m.namespace) (Mismatch part_of.Namespace)) _ (λ namespace.
+    chain (λ done. bytes_eq m.name name ≡ true) (Names name m) (requires_that (bytes_eq m.name name) (Mismatch part_of.Name)) _ (keeps_gives (bytes_eq m.name name) (Mismatch part_of.Name)) (λ named e.
     keeps_all (Names name m) (fits_version (replace space name) m.version) VersionGiven ((bytes_eq-Decides m.name name).0 e)))))
 
 accepted_names : (space name : List ℕ) (kind : ClientKind) (json : Json) → IfOk (accepted (replace space name) kind json) (IsNamed name)

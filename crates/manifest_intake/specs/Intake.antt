@@ -1,6 +1,9 @@
 -- The manifest that a body gives, with its defaults, or the first reason to refuse it.
 use Rattle.std.specs.Prelude.{◌≡◌, ◌||◌, ℕ, Bool, true, List, codes, Option, Some, None, Result, Ok, Err, if◌then◌else◌}
 use Rattle.std.specs.Str.{bytes_eq}
+use Rattle.answers.specs.declared.stop.Stop.{Stop}
+use Rattle.answers.specs.declared.stop.Stop.TheVariants.{Refused, Memory}
+use Rattle.answers.specs.Answers.{requires_that}
 use Rattle.json_tree.specs.declared.value.Json.{Json}
 use Rattle.json_tree.specs.declared.value.Json.TheViews.{out-Json}
 use Rattle.serve_names.specs.Labels.{is_label_of}
@@ -19,8 +22,6 @@ use Rattle.validation.specs.Rules.{Verdict, first_fault, rules_of}
 use Rattle.manifest_intake.specs.declared.refusal.Part.TheVariants as part
 use Rattle.manifest_intake.specs.declared.refusal.ManifestRefusal.{ManifestRefusal}
 use Rattle.manifest_intake.specs.declared.refusal.ManifestRefusal.TheVariants.{UnreadableBody, WrongShape, Mismatch, VersionGiven, Broken}
-use Rattle.manifest_intake.specs.declared.refusal.IntakeError.{IntakeError}
-use Rattle.manifest_intake.specs.declared.refusal.IntakeError.TheVariants as error
 use Rattle.manifest_intake.specs.Bodies.{IsBody}
 
 -- what a manifest is for: to make an object in a namespace, to take the place of the one of that namespace and name, or to be checked alone
@@ -45,10 +46,6 @@ abbrev pub fits_version : Purpose → List ℕ → Bool
 fits_version (replace space name) given = true
 fits_version other given = is_empty given
 
--- go on where the test holds
-abbrev pub keeps : Bool → ManifestRefusal → Result (Unit {0}) ManifestRefusal
-keeps holds refusal = if holds then Ok tt else Err refusal
-
 -- what is of its shape, or that it isn't
 abbrev pub shaped : {A : Type 0} → Result A Field → Result A ManifestRefusal
 shaped (Ok x) = Ok x
@@ -61,11 +58,11 @@ ruled (Err invalid) = Err (Broken invalid)
 -- what a manifest must match: the API, the kind, and where it is sent
 unfoldable pub matched : Purpose → ClientKind → Manifest → Result (Unit {0}) ManifestRefusal
 matched purpose kind m = do
-  api ← keeps (bytes_eq m.api api_version) (Mismatch part.ApiVersion)
-  word ← keeps (bytes_eq m.kind (kind_text kind)) (Mismatch part.Kind)
-  namespace ← keeps (fits_namespace purpose m.namespace) (Mismatch part.Namespace)
-  name ← keeps (fits_name purpose m.name) (Mismatch part.Name)
-  keeps (fits_version purpose m.version) VersionGiven
+  api ← requires_that (bytes_eq m.api api_version) (Mismatch part.ApiVersion)
+  word ← requires_that (bytes_eq m.kind (kind_text kind)) (Mismatch part.Kind)
+  namespace ← requires_that (fits_namespace purpose m.namespace) (Mismatch part.Namespace)
+  name ← requires_that (fits_name purpose m.name) (Mismatch part.Name)
+  requires_that (fits_version purpose m.version) VersionGiven
 
 -- the manifest of a kind that a value gives, with its defaults, or why it is refused: its shape, what it must match, its rules
 unfoldable pub accepted : Purpose → ClientKind → Json → Result Manifest ManifestRefusal
@@ -110,17 +107,11 @@ checked_body (Some json) = checked json
 
 -- ---- answers
 
--- an answer is what is due; want of memory is free
-abbrev pub Answers : Result Manifest IntakeError → Result Manifest ManifestRefusal → Type 0
-Answers (Ok manifest) due = due ≡ Ok manifest
-Answers (Err (error.Refused refusal)) due = due ≡ Err refusal
-Answers (Err error.Memory) due = Unit {0}
-
--- the same of the bytes of a body that is checked alone
-abbrev pub Checks : List ℕ → Result Manifest IntakeError → Type 0
+-- what is due to the bytes of a body that is checked alone; that a call is out of memory is free
+abbrev pub Checks : List ℕ → Result Manifest (Stop ManifestRefusal) → Type 0
 Checks bytes (Ok manifest) = (body : Option Json) × IsBody bytes body × (checked_body body ≡ Ok manifest)
-Checks bytes (Err (error.Refused refusal)) = (body : Option Json) × IsBody bytes body × (checked_body body ≡ Err refusal)
-Checks bytes (Err error.Memory) = Unit {0}
+Checks bytes (Err (Refused refusal)) = (body : Option Json) × IsBody bytes body × (checked_body body ≡ Err refusal)
+Checks bytes (Err Memory) = Unit {0}
 
 -- the spec is of the kind, the rest of a pod spec is well formed and three levels less deep than a value of this depth, and the names of
 -- labels and annotations rise

@@ -1,6 +1,7 @@
--- What a refused manifest is told, and the form of every refusal.
+-- What a refused manifest is told.
 use Rattle.std.specs.Prelude.{ℕ, List, ◌++◌, codes}
-use Rattle.serde_json.specs.Data.{Data, object, member, no_members, string, number, unsigned}
+use Rattle.serde_json.specs.Data.{Data}
+use Rattle.api_status.specs.Status.{failure}
 use Rattle.resource_codec.specs.Paths.{path_bytes}
 use Rattle.validation.specs.Texts.{text_of_place, text_of_rule}
 use Rattle.manifest_intake.specs.declared.refusal.Part.{Part}
@@ -30,17 +31,6 @@ message_of (WrongShape field) = codes "wrong shape at " ++ path_bytes field
 message_of (Mismatch part) = part_path part ++ codes " does not match the path"
 message_of VersionGiven = codes "metadata.resourceVersion must be absent"
 message_of (Broken invalid) = text_of_place invalid.place ++ codes ": " ++ text_of_rule invalid.rule
-
--- a Status of failure
-abbrev pub failure : ℕ → List ℕ → List ℕ → Data
-failure code reason message = object
-    (member (codes "apiVersion") (string (codes "v1"))
-    (member (codes "code") (number (unsigned code))
-    (member (codes "kind") (string (codes "Status"))
-    (member (codes "message") (string message)
-    (member (codes "reason") (string reason)
-    (member (codes "status") (string (codes "Failure"))
-    no_members))))))
 
 -- the Status that a refused manifest gets
 abbrev pub refusal_data : ManifestRefusal → Data

@@ -1,5 +1,6 @@
 //! Examining the value of a body.
-ghost use Rattle.std.specs.Prelude.{◌≡◌, IsTrue, IfOk};
+ghost use Rattle.std.specs.Prelude.{IsTrue, IfOk};
+ghost use Rattle.answers.specs.Answers.{Comes};
 ghost use Rattle.json_tree.specs.Tree.{is_well_formed, depth_of};
 ghost use Rattle.resource_codec.specs.Shape.{shape};
 ghost use Rattle.validation.specs.Defaults.{defaults_of};
@@ -8,7 +9,8 @@ ghost use Rattle.manifest_intake.specs.Intake as spec;
 ghost use Rattle.manifest_intake.specs.Seen.{purpose_seen};
 
 use crate::matching::{Purpose, match_parts};
-use crate::refusal::{IntakeError, ManifestRefusal};
+use crate::refusal::ManifestRefusal;
+use answers::Stop;
 use json_tree::Json;
 use resource_codec::{DecodeError, decode};
 use resource_types::{ClientKind, Manifest};
@@ -16,26 +18,24 @@ use std::alloc::Global;
 use validation::{check, with_defaults};
 
 /// The manifest that a value has the shape of.
-fn shaped(alloc: Global, kind: ClientKind, json: &Json) -> Result<Manifest, IntakeError>
-    ensures value { spec.Answers result (spec.shaped (shape kind json.now)) }
+fn shaped(alloc: Global, kind: ClientKind, json: &Json) -> Result<Manifest, Stop<ManifestRefusal>>
+    ensures value { Comes result (spec.shaped (shape kind json.now)) }
     ensures sound { IsTrue (is_well_formed json.now) → IfOk result (spec.IsSound kind (depth_of json.now)) }
 {
     match decode(alloc, kind, json) {
         Ok(manifest) => Ok(manifest),
-        Err(DecodeError::Shape(field)) => {
-            Err(IntakeError::Refused(ManifestRefusal::WrongShape(field)))
-        }
-        Err(DecodeError::Memory) => Err(IntakeError::Memory),
+        Err(DecodeError::Shape(field)) => Err(Stop::Refused(ManifestRefusal::WrongShape(field))),
+        Err(DecodeError::Memory) => Err(Stop::Memory),
     }
 }
 
 /// Whether a manifest with its defaults keeps the rules.
-fn keep_rules(manifest: &Manifest) -> Result<(), ManifestRefusal>
-    ensures { result ≡ spec.ruled (first_fault (rules_of manifest.now)) }
+fn keep_rules(manifest: &Manifest) -> Result<(), Stop<ManifestRefusal>>
+    ensures { Comes result (spec.ruled (first_fault (rules_of manifest.now))) }
 {
     match check(manifest) {
         Ok(()) => Ok(()),
-        Err(invalid) => Err(ManifestRefusal::Broken(invalid)),
+        Err(invalid) => Err(Stop::Refused(ManifestRefusal::Broken(invalid))),
     }
 }
 
@@ -47,8 +47,8 @@ pub fn accept(
     purpose: Purpose<'_>,
     kind: ClientKind,
     json: &Json,
-) -> Result<Manifest, IntakeError>
-    ensures value { spec.Answers result (spec.accepted (purpose_seen purpose.entry) kind json.now) }
+) -> Result<Manifest, Stop<ManifestRefusal>>
+    ensures value { Comes result (spec.accepted (purpose_seen purpose.entry) kind json.now) }
     // The spec is of the kind. Of a well-formed value, the rest of a pod spec is well formed and three levels less deep, and the names of labels rise.
     ensures sound { IsTrue (is_well_formed json.now) → IfOk result (spec.IsSound kind (depth_of json.now)) }
 {

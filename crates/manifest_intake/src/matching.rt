@@ -1,9 +1,11 @@
 //! What a manifest must match.
 ghost use Rattle.std.specs.Prelude.{◌≡◌};
+ghost use Rattle.answers.specs.Answers.{Comes};
 ghost use Rattle.manifest_intake.specs.Intake as spec;
 ghost use Rattle.manifest_intake.specs.Seen.{purpose_seen};
 
 use crate::refusal::{ManifestRefusal, Part};
+use answers::{Stop, require};
 use json_tree::Text;
 use resource_types::{ClientKind, Manifest, api_version};
 use serve_names::is_label;
@@ -28,13 +30,6 @@ pub enum Purpose<'a> {
     },
     /// To be checked by itself, for any namespace.
     Check,
-}
-
-/// Nothing where the test holds, and else the refusal.
-fn keep(holds: bool, refusal: ManifestRefusal) -> Result<(), ManifestRefusal>
-    ensures { result ≡ spec.keeps holds refusal }
-{
-    if holds { Ok(()) } else { Err(refusal) }
 }
 
 fn fits_namespace(purpose: Purpose<'_>, given: &Text) -> bool
@@ -71,18 +66,18 @@ pub(crate) fn match_parts(
     purpose: Purpose<'_>,
     kind: ClientKind,
     manifest: &Manifest,
-) -> Result<(), ManifestRefusal>
-    ensures { result ≡ spec.matched (purpose_seen purpose.entry) kind manifest.now }
+) -> Result<(), Stop<ManifestRefusal>>
+    ensures { Comes result (spec.matched (purpose_seen purpose.entry) kind manifest.now) }
 {
     let is_api = manifest.api.is(api_version());
-    keep(is_api, ManifestRefusal::Mismatch(Part::ApiVersion))?;
+    require(is_api, ManifestRefusal::Mismatch(Part::ApiVersion))?;
     let is_kind = manifest.kind.is(kind.as_str());
-    keep(is_kind, ManifestRefusal::Mismatch(Part::Kind))?;
+    require(is_kind, ManifestRefusal::Mismatch(Part::Kind))?;
     let is_space = fits_namespace(purpose, &manifest.namespace);
-    keep(is_space, ManifestRefusal::Mismatch(Part::Namespace))?;
+    require(is_space, ManifestRefusal::Mismatch(Part::Namespace))?;
     let is_name = fits_name(purpose, &manifest.name);
-    keep(is_name, ManifestRefusal::Mismatch(Part::Name))?;
-    keep(
+    require(is_name, ManifestRefusal::Mismatch(Part::Name))?;
+    require(
         fits_version(purpose, &manifest.version),
         ManifestRefusal::VersionGiven,
     )

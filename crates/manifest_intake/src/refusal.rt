@@ -34,37 +34,6 @@ pub enum ManifestRefusal {
     Broken(Invalid),
 }
 
-/// Why there is no manifest.
-#[derive(Clone, Copy, Debug, Drop, PartialEq, Eq)]
-pub enum IntakeError {
-    /// It is refused.
-    Refused(ManifestRefusal),
-    /// Memory is wanting.
-    Memory,
-}
-
-impl From<AllocError> for IntakeError {
-    ghost use Rattle.std.specs.Prelude.{◌≡◌};
-    ghost use Rattle.manifest_intake.specs.declared.refusal.IntakeError.TheVariants.{Memory};
-
-    ghost from_gives = { λ _ e. e ≡ Memory };
-
-    fn from(_e: AllocError) -> IntakeError {
-        IntakeError::Memory
-    }
-}
-
-impl From<ManifestRefusal> for IntakeError {
-    ghost use Rattle.std.specs.Prelude.{◌≡◌};
-    ghost use Rattle.manifest_intake.specs.declared.refusal.IntakeError.TheVariants.{Refused};
-
-    ghost from_gives = { λ refusal e. e ≡ Refused refusal };
-
-    fn from(refusal: ManifestRefusal) -> IntakeError {
-        IntakeError::Refused(refusal)
-    }
-}
-
 impl Part {
     /// The path of the part in a manifest.
     pub fn path(self) -> &'static str

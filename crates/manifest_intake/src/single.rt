@@ -1,5 +1,6 @@
 //! A manifest that is checked by itself.
 ghost use Rattle.std.specs.Prelude.{◌≡◌, ◌≤◌, IsTrue, IfOk};
+ghost use Rattle.answers.specs.Answers.{Comes};
 ghost use Rattle.json_tree.specs.Tree.{is_well_formed, depth_of};
 ghost use Rattle.resource_codec.specs.Written.{IsWell};
 ghost use Rattle.manifest_intake.specs.Intake as spec;
@@ -7,7 +8,8 @@ ghost use Rattle.manifest_intake.specs.Intake as spec;
 use crate::body::read_body;
 use crate::intake::accept;
 use crate::matching::Purpose;
-use crate::refusal::{IntakeError, ManifestRefusal, Part};
+use crate::refusal::{ManifestRefusal, Part};
+use answers::Stop;
 use json_tree::{Json, Members, Text};
 use resource_codec::Field;
 use resource_types::{ClientKind, Manifest};
@@ -26,30 +28,30 @@ fn kind_named(word: &Text) -> Option<ClientKind>
 
 /// The kind that a value says by itself.
 #[tactic(auto, unfolding(crate::specs::Intake::kind_said))]
-fn kind_in(json: &Json) -> Result<ClientKind, ManifestRefusal>
-    ensures { result ≡ spec.kind_said json.now }
+fn kind_in(json: &Json) -> Result<ClientKind, Stop<ManifestRefusal>>
+    ensures { Comes result (spec.kind_said json.now) }
 {
     let members = match json {
         Json::Obj(members) => members,
-        _ => return Err(ManifestRefusal::WrongShape(Field::Body)),
+        _ => return Err(Stop::Refused(ManifestRefusal::WrongShape(Field::Body))),
     };
     match members.get("apiVersion") {
         Some(Json::Str(_)) => {}
-        _ => return Err(ManifestRefusal::WrongShape(Field::ApiVersion)),
+        _ => return Err(Stop::Refused(ManifestRefusal::WrongShape(Field::ApiVersion))),
     }
     let word = match members.get("kind") {
         Some(Json::Str(word)) => word,
-        _ => return Err(ManifestRefusal::WrongShape(Field::Kind)),
+        _ => return Err(Stop::Refused(ManifestRefusal::WrongShape(Field::Kind))),
     };
     match kind_named(word) {
         Some(kind) => Ok(kind),
-        None => Err(ManifestRefusal::Mismatch(Part::Kind)),
+        None => Err(Stop::Refused(ManifestRefusal::Mismatch(Part::Kind))),
     }
 }
 
 #[tactic(auto, unfolding(crate::specs::Intake::checked))]
-fn check_value(alloc: Global, json: &Json) -> Result<Manifest, IntakeError>
-    ensures value { spec.Answers result (spec.checked json.now) }
+fn check_value(alloc: Global, json: &Json) -> Result<Manifest, Stop<ManifestRefusal>>
+    ensures value { Comes result (spec.checked json.now) }
     ensures well { IsTrue (is_well_formed json.now) → depth_of json.now ≤ 32 → IfOk result IsWell }
 {
     let kind = kind_in(json)?;
@@ -60,13 +62,13 @@ fn check_value(alloc: Global, json: &Json) -> Result<Manifest, IntakeError>
 /// namespace that is a label fits. It is refused for the first reason that holds: behind the texts `apiVersion` and `kind` a
 /// kind that isn't one of the three, and then as a manifest that is to make an object is: the rest of its shape, another
 /// `apiVersion`, and so on.
-pub fn check_body(alloc: Global, bytes: &[u8]) -> Result<Manifest, IntakeError>
+pub fn check_body(alloc: Global, bytes: &[u8]) -> Result<Manifest, Stop<ManifestRefusal>>
     ensures checks { spec.Checks bytes.now result }
     // The manifest can be written.
     ensures well { IfOk result IsWell }
 {
     match read_body(alloc, bytes)? {
         Some(json) => check_value(alloc, &json),
-        None => Err(IntakeError::Refused(ManifestRefusal::UnreadableBody)),
+        None => Err(Stop::Refused(ManifestRefusal::UnreadableBody)),
     }
 }

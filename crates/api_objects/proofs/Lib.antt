@@ -1,3 +1,0 @@
-pub mod StandsAs
-pub mod ClientPuts
-pub mod DuePuts

@@ -1,0 +1,2 @@
+pub mod ClientPuts
+pub mod DuePuts
