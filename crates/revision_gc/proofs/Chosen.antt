@@ -1,11 +1,13 @@
--- The Revision that is collected, by one walk over those that stand.
+-- The Revision that is collected, by one walk over those of the Configuration's namespace.
 use Rattle.std.proofs.Common.{◌≡◌, ℕ, Bool, true, false, List, length, Option, None, refl, sym, ap, ◌∙◌}
-use Rattle.std.specs.Prelude.{◌&&◌, ◌||◌, not, map, is_some, slice_get}
+use Rattle.std.specs.Prelude.{◌&&◌, ◌||◌, bytes_eq, not, map, is_some, slice_get}
+use Rattle.std.specs.List.{filter}
 use Rattle.std.proofs.lemmas.List.{length-map}
 use Rattle.resource_types.specs.declared.names.Kind.TheVariants as kind
 use Rattle.resource_types.specs.declared.objects.Object.{Object}
-use Rattle.resource_types.specs.Objects.{has_been_ready}
-use Rattle.resource_types.specs.Lookups.{State, given, is_called, is_free, is_owned_by, latest_created, latest_ready, of_kind}
+use Rattle.resource_types.specs.Objects.{has_been_ready, is_of}
+use Rattle.resource_types.specs.Lookups.{State, given, in_space, is_called, is_free, is_given, is_owned_by, is_owner, latest_created, latest_ready, of_kind}
+use Rattle.resource_types.proofs.Exact.{left, right}
 use Rattle.control_rules.specs.declared.settings.GcSettings.{GcSettings}
 use Rattle.control_rules.specs.Collection.{candidate_of, candidates, collected_place, collection_choice, first_place, is_candidate, is_stale}
 use Rattle.revision_gc.specs.declared.choice.Pick.{Pick}
@@ -14,7 +16,7 @@ use Rattle.revision_gc.specs.Choices.{pick_of, picked}
 use Rattle.revision_gc.specs.Sweeps.{count_from, first_object, is_candidate_beside, is_stale_candidate}
 use Rattle.revision_gc.proofs.Picks.{place_by_pick}
 use Rattle.revision_gc.proofs.Firsts.{first_found, first_stands}
-use Rattle.revision_gc.proofs.Walks.{counted_all, filtered, whole}
+use Rattle.revision_gc.proofs.Walks.{counted_all, filtered, filter-in_space, whole}
 
 -- ---- a candidate, as it is asked
 
@@ -32,6 +34,13 @@ unfolding is_candidate
 counted_as st c v created ready t e f h =
     h ∙ sym (asked (is_owned_by c v) (is_free st v.key.name) (is_called v.key.name.name created || is_called v.key.name.name ready))
     ∙ rw (e, f) refl
+
+-- a candidate is in the Configuration's namespace
+candidate-space : (st : State) (c v : Object) → is_candidate has_been_ready st c v ≡ true → bytes_eq v.key.name.space c.key.name.space ≡ true
+unfolding is_candidate
+candidate-space st c v e =
+    let owned = left (is_owned_by c v) (is_free st v.key.name) (left (is_owned_by c v && is_free st v.key.name) _ e) in
+    right (is_of kind.Revision v) _ (left (is_of kind.Revision v && bytes_eq v.key.name.space c.key.name.space) (is_given (is_owner c) v.meta.owner) owned)
 
 -- ---- the choice among a list of objects
 
@@ -75,16 +84,20 @@ module _ (gc : GcSettings) (st : State) (c : Object) (now : ℕ) where
   unfolding collection_choice
   choice_is = refl
 
-  pub chosen_as : (n : ℕ) (s f out : Option Object) (t : Bool) (pick : Pick)
-      → n ≡ count_from counts 0 revisions → s ≡ first_object (is_stale_candidate gc now st c) None revisions → f ≡ first_object counts None revisions
+  -- `near` are those of the Configuration's namespace
+  pub chosen_as : (near : List Object) (n : ℕ) (s f out : Option Object) (t : Bool) (pick : Pick)
+      → near ≡ in_space c.key.name.space revisions
+      → n ≡ count_from counts 0 near → s ≡ first_object (is_stale_candidate gc now st c) None near → f ≡ first_object counts None near
       → t ≡ is_some s → pick ≡ pick_of gc n t → out ≡ picked pick s f
       → out ≡ collection_choice has_been_ready gc st c now
   unfolding candidates
-  chosen_as n s f out t pick count-is s-is f-is t-is pick-is out-is =
-      let stale = s-is ∙ filtered counts (λ o. is_stale gc now (candidate_of o)) revisions None in
-      let all = f-is ∙ whole counts revisions None in
+  chosen_as near n s f out t pick near-is count-is s-is f-is t-is pick-is out-is =
+      let same : filter counts near ≡ candidates has_been_ready st c =
+      ap (filter counts) near-is ∙ filter-in_space counts c.key.name.space (candidate-space st c) revisions in
+      let stale = s-is ∙ filtered counts (λ o. is_stale gc now (candidate_of o)) near None ∙ ap (first_object (λ o. is_stale gc now (candidate_of o)) None) same in
+      let all = f-is ∙ whole counts near None ∙ ap (first_object (λ o. true) None) same in
       out-is ∙ ap (λ p. picked p s f) pick-is
       ∙ same_pick gc n (length (candidates has_been_ready st c)) t (is_some (first_stale gc now (candidates has_been_ready st c))) s f
       (first_stale gc now (candidates has_been_ready st c)) (first_of_all gc now (candidates has_been_ready st c))
-      (count-is ∙ counted_all counts revisions) (t-is ∙ ap is_some stale) stale all
+      (count-is ∙ counted_all counts near ∙ ap length same) (t-is ∙ ap is_some stale) stale all
       ∙ sym (list_choice gc now (candidates has_been_ready st c)) ∙ sym choice_is

@@ -1,9 +1,10 @@
 -- One walk over objects of which some count, and the list of those.
 use Rattle.std.proofs.Common.{◌≡◌, ℕ, suc, ◌+◌, ◌≤◌, ◌<◌, get_or, Bool, true, false, cond, List, [], ◌∷◌, drop, length, Option, Some, refl, sym, ap, ◌∙◌, arith, drop-cons}
-use Rattle.std.specs.Prelude.{◌&&◌, slice_get}
+use Rattle.std.specs.Prelude.{◌&&◌, bytes_eq, slice_get}
 use Rattle.std.specs.List.{filter}
 use Rattle.std.proofs.lemmas.List.{at_drop_all}
 use Rattle.resource_types.specs.declared.objects.Object.{Object}
+use Rattle.resource_types.specs.Lookups.{in_space}
 use Rattle.resource_types.proofs.Lists.{drop_at}
 use Rattle.control_rules.specs.declared.collection.Candidate.{Candidate}
 use Rattle.control_rules.specs.Collection.{earlier, first_from, place_of}
@@ -84,3 +85,17 @@ module _ (p : Object → Bool) where
   pub whole : (xs : List Object) → Whole xs
   whole [] best = refl
   whole (x ∷ xs) best = whole_at x xs (whole xs) (p x) best
+
+-- ---- in a namespace
+
+-- where what counts is in the namespace, those that count are all there
+pub filter-in_space : (p : Object → Bool) (space : List ℕ) → ((o : Object) → p o ≡ true → bytes_eq o.key.name.space space ≡ true)
+    → (xs : List Object) → filter p (in_space space xs) ≡ filter p xs
+filter-in_space p space there [] = refl
+filter-in_space p space there (x ∷ xs) = by (bytes_eq x.key.name.space space) (p x) refl refl (filter-in_space p space there xs)
+  where
+    by : (b t : Bool) → bytes_eq x.key.name.space space ≡ b → p x ≡ t → filter p (in_space space xs) ≡ filter p xs
+        → filter p (cond b (x ∷ in_space space xs) (in_space space xs)) ≡ cond t (x ∷ filter p xs) (filter p xs)
+    by true t e f ih = ap (λ (ys : List Object). cond (p x) (x ∷ ys) ys) ih ∙ rw f refl
+    by false true e f ih = let g : bytes_eq x.key.name.space space ≡ true = there x f in absurd cc
+    by false false e f ih = ih

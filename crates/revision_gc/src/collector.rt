@@ -16,7 +16,7 @@ use crate::choice::{Pick, choose};
 use control_rules::GcSettings;
 use controller_parts::{Due, plan_of, removal_of, standing};
 use json_tree::Text;
-use resource_types::{Body, Kind, Name, Object, is_free, newest_owned, newest_ready};
+use resource_types::{Body, Kind, Name, Object, is_free, newest_owned, newest_ready, walk_space};
 use std::alloc::{AllocError, Global};
 use version_store::{Plan, Reconciler, Store, Walk};
 
@@ -190,7 +190,8 @@ fn collected<'a>(
 ) -> Option<&'a Object>
     ensures { option_copied result ≡ collection_choice has_been_ready settings.now (state store.now.entries) configuration.now moment }
 {
-    let revisions = store.walk(Kind::Revision);
+    let space = configuration.key.name.space.as_str();
+    let revisions = walk_space(store, Kind::Revision, space);
     let seen = swept(store, &revisions, settings, configuration, moment);
     let pick = choose(settings, seen.count, is_there(seen.stale));
     picked(pick, seen.stale, seen.first)

@@ -1,5 +1,5 @@
 -- The first Revision with a spare pin, place by place.
-use Rattle.std.proofs.Common.{◌≡◌, ℕ, ◌+◌, ◌≤◌, List, [], length, drop, Bool, true, false, Option, Some, None, refl, sym, ap, ◌∙◌}
+use Rattle.std.proofs.Common.{◌≡◌, ℕ, ◌+◌, ◌≤◌, List, [], ◌∷◌, length, drop, Bool, true, false, Option, Some, None, refl, sym, ap, ◌∙◌}
 use Rattle.std.specs.Prelude.{◌&&◌, ◌||◌, bytes_eq, cond, map, not, slice_get}
 use Rattle.std.specs.List.{find}
 use Rattle.std.proofs.lemmas.List.{drop_all}
@@ -11,7 +11,8 @@ use Rattle.resource_types.specs.declared.objects.Body.{Body}
 use Rattle.resource_types.specs.declared.objects.Body.TheVariants.{Service, Configuration, Revision, Route, Health, Table}
 use Rattle.resource_types.specs.declared.objects.Object.{Object}
 use Rattle.resource_types.specs.Objects.{is_of, no_status, pins_of, status_of}
-use Rattle.resource_types.specs.Lookups.{State, of_kind}
+use Rattle.resource_types.specs.Lookups.{State, in_space, of_kind}
+use Rattle.resource_types.proofs.Exact.{left, right}
 use Rattle.resource_types.proofs.Lists.{drop_at}
 use Rattle.control_rules.specs.Standing.{listed, published_at, published_of, read, standing, target_names, traffic_at}
 use Rattle.control_rules.specs.NextRoute.{first_spare, is_spare}
@@ -56,12 +57,29 @@ spare_by st r table route v e f =
     rw (e, f, published_as v.key.name.name (standing kind.Table r st), shown_as v.key.name.name (standing kind.Route r st))
     (regrouped (is_of kind.Revision v && bytes_eq v.key.name.space r.space) (listed r.name (pins_of v.body)) (listed v.key.name.name (published_at st r)) (listed v.key.name.name (traffic_at st r)))
 
--- `revisions` are those that stand
-module _ (st : State) (r : Name) (revisions : State) (walked : revisions ≡ of_kind kind.Revision st) where
+-- where what passes the test is in the namespace, the first that does is the first one there
+find-in_space : (p : Object → Bool) (space : List ℕ) → ((o : Object) → p o ≡ true → bytes_eq o.key.name.space space ≡ true)
+    → (xs : State) → find p (in_space space xs) ≡ find p xs
+find-in_space p space there [] = refl
+find-in_space p space there (x ∷ xs) = by (bytes_eq x.key.name.space space) (p x) refl refl (find-in_space p space there xs)
+  where
+    by : (b t : Bool) → bytes_eq x.key.name.space space ≡ b → p x ≡ t → find p (in_space space xs) ≡ find p xs
+        → find p (cond b (x ∷ in_space space xs) (in_space space xs)) ≡ cond t (Some x) (find p xs)
+    by true t e f ih = ap (λ (o : Option Object). cond (p x) (Some x) o) ih ∙ rw f refl
+    by false true e f ih = let g : bytes_eq x.key.name.space space ≡ true = there x f in absurd cc
+    by false false e f ih = ih
+
+-- a Revision with a spare pin is in the Route's namespace
+spare-space : (st : State) (r : Name) (v : Object) → is_spare st r v ≡ true → bytes_eq v.key.name.space r.space ≡ true
+unfolding is_spare
+spare-space st r v e = right (is_of kind.Revision v) _ (left (is_of kind.Revision v && bytes_eq v.key.name.space r.space) _ e)
+
+-- `revisions` are those of the Route's namespace
+module _ (st : State) (r : Name) (revisions : State) (walked : revisions ≡ in_space r.space (of_kind kind.Revision st)) where
   -- from the first place on
   pub from_first : first_spare st r ≡ find (is_spare st r) revisions
   unfolding first_spare
-  from_first = ap (find (is_spare st r)) (sym walked)
+  from_first = sym (find-in_space (is_spare st r) r.space (spare-space st r) (of_kind kind.Revision st)) ∙ ap (find (is_spare st r)) (sym walked)
 
   module _ (k : ℕ) (so_far : first_spare st r ≡ find (is_spare st r) (drop k revisions)) where
     at_place : (v : Object) → slice_get revisions k ≡ Some v → first_spare st r ≡ cond (is_spare st r v) (Some v) (find (is_spare st r) (drop (k + 1) revisions))

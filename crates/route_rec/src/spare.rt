@@ -10,7 +10,7 @@ ghost use Rattle.route_rec.specs.Spares.{has_pin, has_row, has_target, is_publis
 use crate::pins::{is_listed, repinned, without_pin};
 use controller_parts::{Due, standing};
 use json_tree::{Copied, Text};
-use resource_types::{Body, Kind, Name, Object, Row, Target};
+use resource_types::{Body, Kind, Name, Object, Row, Target, walk_space};
 use std::alloc::{AllocError, Global};
 use version_store::Store;
 
@@ -103,7 +103,7 @@ fn first_spare<'a>(store: &'a Store<Object>, route: &Name) -> Option<&'a Object>
 {
     let table = standing(store, Kind::Table, &route.space, &route.name);
     let object = standing(store, Kind::Route, &route.space, &route.name);
-    let revisions = store.walk(Kind::Revision);
+    let revisions = walk_space(store, Kind::Revision, route.space.as_str());
     for place in 0..revisions.len() {
         let revision = revisions.at(place);
         if is_spare(route, table, object, revision) {

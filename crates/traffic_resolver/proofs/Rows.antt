@@ -1,15 +1,30 @@
 -- Worked rows by computation: what the targets of Route `hello` in namespace `default` come to.
-use Rattle.std.proofs.Common.{◌≡◌, ℕ, true, List, [], ◌∷◌, ◌++◌, codes, Some, None, refl}
+use Rattle.std.proofs.Common.{◌≡◌, ℕ, Bool, true, false, List, [], ◌∷◌, ◌++◌, codes, Some, None, refl}
 use Rattle.std.specs.Prelude.{map}
+use Rattle.resource_types.specs.declared.names.Kind.{Kind}
+use Rattle.resource_types.specs.declared.names.Kind.TheVariants as kind
 use Rattle.resource_types.specs.declared.names.Name.{Name}
+use Rattle.resource_types.specs.declared.conditions.CondName.{CondName}
+use Rattle.resource_types.specs.declared.conditions.CondName.TheVariants as condition
+use Rattle.resource_types.specs.declared.conditions.Truth.{Truth}
+use Rattle.resource_types.specs.declared.conditions.Truth.TheVariants as truth
+use Rattle.resource_types.specs.declared.conditions.Condition.{Condition}
 use Rattle.resource_types.specs.declared.specification.Row.{Row}
 use Rattle.resource_types.specs.declared.specification.Target.{Target}
+use Rattle.resource_types.specs.declared.status.ObjectStatus.{ObjectStatus}
+use Rattle.resource_types.specs.declared.objects.Body.{Body}
+use Rattle.resource_types.specs.declared.objects.Body.TheVariants.{Configuration, Revision}
+use Rattle.resource_types.specs.declared.objects.Object.{Object}
+use Rattle.resource_types.specs.Objects.{no_template}
+use Rattle.resource_types.specs.Lookups.{State}
 use Rattle.control_rules.specs.declared.traffic.Found.{Found}
 use Rattle.control_rules.specs.declared.traffic.Found.TheVariants as found
 use Rattle.control_rules.specs.declared.traffic.Named.TheVariants as named
 use Rattle.control_rules.specs.declared.traffic.Resolved.{Resolved}
 use Rattle.control_rules.specs.declared.traffic.Resolved.TheVariants.{Assigned, Missing, Unready}
-use Rattle.control_rules.specs.Resolution.{first_hindrance, meant_of, add_share, shares_from, assigned_rows, resolved}
+use Rattle.control_rules.specs.Standing.{key_at, standing}
+use Rattle.control_rules.specs.Resolution.{first_hindrance, found_of, meant_of, add_share, shares_from, assigned_rows, resolved, stored}
+use Rattle.control_rules.specs.Differences.{no_labels}
 
 abbrev hello : Name
 hello = record { space = codes "default"; name = codes "hello" }
@@ -82,3 +97,36 @@ first_absent = refl
 latest_absent : resolved_to ((latest_of (codes "c") 100, found.RevisionAbsent) ∷ []) ≡ Missing 0 named.Revision (codes "c")
 unfolding resolved first_hindrance
 latest_absent = refl
+
+-- ---- Revision `v` was ready once, and isn't now; it is the latest ready one of Configuration `c`
+
+abbrev truth_of : CondName → Truth → Bool → Condition
+truth_of name t info = record { name = name; truth = t; reason = []; message = []; info = info; since = 0 }
+
+abbrev was_ready : ObjectStatus
+was_ready = record { observed = 1; created = []; ready = []; url = []; traffic = []; conditions = truth_of condition.HasBeenReady truth.True true ∷ truth_of condition.Ready truth.False false ∷ [] }
+
+abbrev names_it : ObjectStatus
+names_it = record { observed = 1; created = codes "v"; ready = codes "v"; url = []; traffic = []; conditions = [] }
+
+abbrev object : Kind → List ℕ → ℕ → Body → Object
+object kind simple uid body = record {
+  key = key_at kind (record { space = codes "default"; name = simple });
+  meta = record { stamp = record { version = uid; generation = 1; uid = uid; created = 0 }; owner = None; labels = no_labels; annotations = no_labels };
+  body = body;
+}
+
+abbrev once : State
+once =
+    object kind.Configuration (codes "c") 2 (Configuration no_template names_it) ∷
+    object kind.Revision (codes "v") 3 (Revision no_template.spec 1 [] None was_ready) ∷ []
+
+-- one that a target names must be ready now
+named_must_be_ready : found_of stored once hello (on (codes "v") 100 []) ≡ found.RevisionUnready
+unfolding found_of standing
+named_must_be_ready = refl
+
+-- the latest one only once
+latest_was_ready : found_of stored once hello (latest_of (codes "c") 100) ≡ found.Ready (codes "v") 3
+unfolding found_of standing
+latest_was_ready = refl
