@@ -1,0 +1,4 @@
+pub mod Named
+pub mod Keying
+pub mod Routing
+pub mod Nexts

@@ -1,0 +1,10 @@
+pub mod Rows
+pub mod Steps
+pub mod Events
+pub mod Sets
+pub mod Chains
+pub mod Settling
+pub mod Cursor
+pub mod Reporting
+pub mod Promising
+pub mod Caused

@@ -1,0 +1,9 @@
+pub mod Standard
+pub mod Counts
+pub mod Looking
+pub mod Rows
+pub mod Works
+pub mod Planes
+pub mod Causes
+pub mod Turns
+pub mod Reported
