@@ -1,1 +1,6 @@
-pub mod Bare
+pub mod OptionTexts
+pub mod OptionRules
+pub mod OptionWalk
+pub mod OptionWords
+pub mod PlaneOptions
+pub mod Commands

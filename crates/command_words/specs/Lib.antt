@@ -1,2 +1,5 @@
+pub mod Options
+pub mod Settings
 pub mod Grammar
+pub mod Apps
 pub mod Stray

@@ -2,16 +2,17 @@
 ghost use Rattle.std.specs.Prelude.{◌≡◌, IfOk, IsErrAnd};
 ghost use Rattle.command_words.specs.Grammar.{IsCommand, IsOutside};
 
-use crate::options::take_no_options;
+use crate::options::{borrowed, read_bare};
+use crate::settings::{Options, read_replay};
 use json_tree::Text;
 use std::alloc::{AllocError, Global};
 use thiserror::Error;
 
 /// What the words ask for.
-#[derive(Clone, Copy, Debug, PartialEq, Eq)]
+#[derive(Debug, Drop, PartialEq)]
 pub enum Command {
-    /// `replay`: answer the requests of the input.
-    Replay,
+    /// `replay`: answer the requests of the input on a plane that is set up so.
+    Replay(Options),
     /// `check`: judge the manifest of the input.
     Check,
 }
@@ -38,9 +39,11 @@ impl From<AllocError> for WordsError {
     }
 }
 
-/// The command that the words are: the one word `replay`, or the one word `check`.
+/// The command that the words are: `replay` with its options, or the one word `check`.
 ///
-/// `Usage` comes exactly where they are neither. There are no options, and so no `--help`.
+/// The first word names the command. An option of `replay` is given at most once, in any order, as `--name value` or
+/// `--name=value`; a value in a word of its own doesn't begin with `-`. `Usage` comes exactly where the words are neither
+/// command, or an option's value isn't one that it takes. There is no `--help`.
 pub fn read_command(alloc: Global, words: &[Text]) -> Result<Command, WordsError>
     ensures command { IfOk result (IsCommand words.now) }
     ensures usage { IsErrAnd result (λ e. e ≡ WordsError.Usage) → IsOutside words.now }
@@ -48,11 +51,13 @@ pub fn read_command(alloc: Global, words: &[Text]) -> Result<Command, WordsError
     let Some(first) = words.first() else {
         return Err(WordsError::Usage);
     };
-    let command = match first.as_str() {
-        "replay" => Command::Replay,
-        "check" => Command::Check,
-        _ => return Err(WordsError::Usage),
-    };
-    take_no_options(alloc, words)?;
-    Ok(command)
+    let texts = borrowed(alloc, words)?;
+    match first.as_str() {
+        "replay" => Ok(Command::Replay(read_replay(alloc, texts.as_slice())?)),
+        "check" => {
+            read_bare(alloc, texts.as_slice())?;
+            Ok(Command::Check)
+        }
+        _ => Err(WordsError::Usage),
+    }
 }

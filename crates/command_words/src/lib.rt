@@ -5,5 +5,7 @@
 
 mod command;
 mod options;
+mod settings;
 
 pub use command::{Command, WordsError, read_command};
+pub use settings::Options;
