@@ -1,5 +1,5 @@
+pub mod StandsAs
 pub mod Patchable
 pub mod Asking
 pub mod Made
-pub mod Patches
 pub mod Versioned

@@ -16,7 +16,8 @@ use Rattle.resource_codec.specs.Storable.{IsStorable}
 use Rattle.resource_codec.proofs.Storing.{storable_spec, storable_rest}
 use Rattle.manifest_intake.specs.Bodies.{IsReadable}
 use Rattle.manifest_intake.proofs.Storing.{client_from}
-use Rattle.api_objects.specs.Puts.{StandsAs, IsPatchable}
+use Rattle.api_puts.specs.Puts.{StandsAs}
+use Rattle.api_calls.specs.Agreement.{IsPatchable}
 
 -- one that stands under a kind that clients write is one that a patch changes
 pub patchable : (journal : Journal) (kind : ClientKind) (space name : List ℕ) (o : Object) → StandsAs journal (object_kind kind) space name o → IsPatchable o

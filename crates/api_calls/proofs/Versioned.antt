@@ -1,10 +1,12 @@
 -- A patch that isn't refused is the put of what it makes, with the version that stands.
-use Rattle.std.proofs.Common.{◌≡◌, ℕ, zero, suc, ◌/◌, ◌%◌, Bool, true, false, cond, List, [], ◌∷◌, Option, Some, None, Result, Ok, Err, refl, sym, ap, ◌∙◌, codes}
+use Rattle.std.proofs.Common.{◌≡◌, ℕ, zero, suc, ◌/◌, ◌%◌, Bool, true, false, cond, List, [], ◌∷◌, Option, Some, None, Result, Ok, Err, refl, sym, ap, subst, ◌∙◌, codes}
 use Rattle.std.specs.Prelude.{IfOk}
 use Rattle.std.specs.Bool.{◌==◌}
 use Rattle.std.specs.Fmt.{decimal, digits, digits_onto, digit_glyph}
 use Rattle.std.specs.Str.{bytes_eq}
 use Rattle.std.proofs.lemmas.Slice.Eq.{bytes_eq-Decides}
+use Rattle.answers.specs.declared.stop.Stop.{Stop}
+use Rattle.answers.specs.Answers.{Comes}
 use Rattle.json_tree.specs.declared.value.Json.{Json, Str}
 use Rattle.json_tree.specs.declared.value.Json.TheViews.{out-Json}
 use Rattle.json_tree.specs.declared.value.Json.TheOpen.{Json-F}
@@ -27,11 +29,11 @@ use Rattle.validation.specs.Defaults.{is_empty, defaults_of}
 use Rattle.validation.specs.Rules.{first_fault, rules_of}
 use Rattle.manifest_intake.specs.Intake.{replace, shaped, ruled, matched, accepted}
 use Rattle.manifest_intake.specs.declared.refusal.ManifestRefusal.{ManifestRefusal}
-use Rattle.api_replies.specs.declared.outcome.Outcome.{Outcome}
-use Rattle.api_replies.specs.declared.outcome.Stop.{Stop}
-use Rattle.api_replies.specs.Outcomes.{Comes}
-use Rattle.api_objects.specs.Puts.{readable, taken, standing, there, version_text, object_put}
-use Rattle.api_calls.specs.Calls.{agreeing, asked, replacing, replacing_with, is_absent_or_fresh, patched_document, patching_over, patching_with}
+use Rattle.api_outcomes.specs.declared.outcome.Outcome.{Outcome}
+use Rattle.api_outcomes.specs.declared.refusal.Refusal.{Refusal}
+use Rattle.api_puts.specs.Puts.{standing, object_put}
+use Rattle.api_calls.specs.Agreement.{manifest_or_refusal, there, version_text}
+use Rattle.api_calls.specs.Calls.{agreeing, replacing, replacing_with, is_absent_or_fresh, patched_document, patching, patching_over}
 use Rattle.api_calls.specs.Versioned.{members_versioned, versioned_as, versioned, IsPutOf}
 
 -- ---- steps
@@ -187,10 +189,10 @@ accepted_versioned : (space name v : List ℕ) (kind : ClientKind) (document : J
     → accepted (replace space name) kind document ≡ Ok m → accepted (replace space name) kind (versioned v document) ≡ Ok (record m { version = v })
 accepted_versioned space name v kind document m e = accepted_as space name v kind document (versioned v document) (shape kind document) m refl (shape_versioned kind v document) e
 
--- what is taken was accepted
-taken_ok : (r : Result Manifest ManifestRefusal) (m : Manifest) → taken r ≡ Ok m → r ≡ Ok m
-taken_ok (Ok x) m e = cc
-taken_ok (Err refusal) m e = absurd cc
+-- a manifest that isn't refused was accepted
+accepted_ok : (r : Result Manifest ManifestRefusal) (m : Manifest) → manifest_or_refusal r ≡ Ok m → r ≡ Ok m
+accepted_ok (Ok x) m e = cc
+accepted_ok (Err refusal) m e = absurd cc
 
 -- ---- a number in decimals
 
@@ -225,8 +227,8 @@ agrees journal moment kind space name v old false m o e = absurd cc
 -- a document with the version that stands replaces what stands, where the document takes its place
 puts_versioned : (journal : Journal) (moment : ℕ) (kind : ClientKind) (space name : List ℕ) (old : Object) (document : Json) (is_fresh : Bool) (m : Manifest) (o : Outcome)
     → standing journal (object_kind kind) space name ≡ Some old → accepted (replace space name) kind document ≡ Ok m → agreeing journal moment kind space name old is_fresh m ≡ Ok o
-    → replacing journal moment kind space name (Some (versioned (version_text old) document)) ≡ Ok o
-unfolding asked replacing replacing_with
+    → replacing journal moment kind space name (versioned (version_text old) document) ≡ Ok o
+unfolding replacing replacing_with
 puts_versioned journal moment kind space name old document is_fresh m o stands e h =
     let v = version_text old in
     rw (accepted_versioned space name v kind document m e, decimal_some old.meta.stamp.version, stands, (bytes_eq-Decides v v).1 refl)
@@ -235,17 +237,15 @@ puts_versioned journal moment kind space name old document is_fresh m o stands e
 -- the patch of an object that stands is such a put
 over_is : (journal : Journal) (moment : ℕ) (kind : ClientKind) (space name : List ℕ) (patch : Json) (old : Object) (o : Outcome)
     → standing journal (object_kind kind) space name ≡ Some old → patching_over journal moment kind space name old (patched_document old patch) ≡ Ok o
-    → IsPutOf journal moment kind space name (Some patch) o
+    → IsPutOf journal moment kind space name patch o
 unfolding patching_over
 over_is journal moment kind space name patch old o stands e =
     let document = patched_document old patch in
     let accepts = accepted (replace space name) kind document in
-    past (taken accepts) _ o (λ m was is. record {
+    past (manifest_or_refusal accepts) _ o (λ m was is. record {
       old = old;
-      patch = patch;
-      given = refl;
       stands = stands;
-      put = puts_versioned journal moment kind space name old document (is_absent_or_fresh old m.version) m o stands (taken_ok accepts m was) is;
+      put = puts_versioned journal moment kind space name old document (is_absent_or_fresh old m.version) m o stands (accepted_ok accepts m was) is;
     }) e
 
 -- what is there stands
@@ -253,28 +253,19 @@ there_ok : (kind : Kind) (name : List ℕ) (found : Option Object) (old : Object
 there_ok kind name None old e = absurd cc
 there_ok kind name (Some o) old e = cc
 
--- the patch of what stands, if anything does
-with_is : (journal : Journal) (moment : ℕ) (kind : ClientKind) (space name : List ℕ) (patch : Json) (o : Outcome)
-    → patching_with journal moment kind space name patch ≡ Ok o → IsPutOf journal moment kind space name (Some patch) o
-unfolding patching_with
-with_is journal moment kind space name patch o e =
+-- A patch that isn't refused is the put of what it makes of the document that stands, with the version that stands.
+pub patch_is_put : (journal : Journal) (moment : ℕ) (kind : ClientKind) (space name : List ℕ) (patch : Json) (o : Outcome)
+    → patching journal moment kind space name patch ≡ Ok o → IsPutOf journal moment kind space name patch o
+unfolding patching
+patch_is_put journal moment kind space name patch o e =
     let found = standing journal (object_kind kind) space name in
     past (there (object_kind kind) name found) _ o (λ old was is. over_is journal moment kind space name patch old o (there_ok (object_kind kind) name found old was) is) e
 
--- what is read is the value of the body
-readable_ok : (body : Option Json) (patch : Json) → readable body ≡ Ok patch → body ≡ Some patch
-readable_ok None patch e = absurd cc
-readable_ok (Some json) patch e = cc
-
--- the same of what a call answers, where it isn't refused
-put_is : (result : Result Outcome Stop) (journal : Journal) (moment : ℕ) (kind : ClientKind) (space name : List ℕ) (patch : Json)
-    → Comes result (patching_with journal moment kind space name patch) → IfOk result (λ o. IsPutOf journal moment kind space name (Some patch) o)
-put_is (Ok o) journal moment kind space name patch e = with_is journal moment kind space name patch o e
-put_is (Err stop) journal moment kind space name patch e = tt
-
--- A patch that isn't refused is the put of what it makes of the document that stands, with the version that stands.
-pub patches_as_put : (result : Result Outcome Stop) (journal : Journal) (moment : ℕ) (kind : ClientKind) (space name s n : List ℕ) (body : Option Json) (patch : Json)
-    → s ≡ space → n ≡ name → readable body ≡ Ok patch → Comes result (patching_with journal moment kind s n patch)
-    → IfOk result (λ o. IsPutOf journal moment kind space name body o)
-patches_as_put result journal moment kind space name s n body patch es en e h =
-    rw (readable_ok body patch e, ← es, ← en) (put_is result journal moment kind s n patch h)
+-- the same of what is put over what stands, where it isn't refused
+pub over_as_put : (result : Result Outcome (Stop Refusal)) (journal : Journal) (moment : ℕ) (kind : ClientKind) (k : Kind) (space name : List ℕ) (patch : Json) (old : Object) (document : Json)
+    → k ≡ object_kind kind → standing journal k space name ≡ Some old → document ≡ patched_document old patch
+    → Comes result (patching_over journal moment kind space name old document) → IfOk result (IsPutOf journal moment kind space name patch)
+over_as_put (Ok o) journal moment kind k space name patch old document ek stands ed h =
+    over_is journal moment kind space name patch old o (subst (λ (x : Kind). standing journal x space name ≡ Some old) ek stands)
+    (subst (λ (d : Json). patching_over journal moment kind space name old d ≡ Ok o) ed h)
+over_as_put (Err stop) journal moment kind k space name patch old document ek stands ed h = tt

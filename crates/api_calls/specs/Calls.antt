@@ -1,5 +1,6 @@
 -- What each call comes to, over the journal as it stands at a moment: the first reason to refuse it, or a reply and perhaps a write.
-use Rattle.std.specs.Prelude.{◌||◌, not, ℕ, Bool, true, false, List, [], length, Option, Some, Result, Ok, nat_le}
+use Rattle.std.specs.Prelude.{◌||◌, not, ℕ, Bool, true, false, List, [], ◌∷◌, length, Option, Some, None, Ok, nat_le}
+use Rattle.answers.specs.Answers.{requires_that}
 use Rattle.json_tree.specs.declared.value.Json.{Json}
 use Rattle.json_tree.specs.Tree.{data_of}
 use Rattle.json_tree.specs.Back.{json_of}
@@ -11,74 +12,73 @@ use Rattle.resource_types.specs.declared.names.Kind.TheVariants as kind
 use Rattle.resource_types.specs.declared.names.ClientKind.{ClientKind}
 use Rattle.resource_types.specs.declared.objects.Object.{Object}
 use Rattle.resource_types.specs.declared.manifests.Manifest.{Manifest}
-use Rattle.resource_types.specs.Lookups.{Journal}
+use Rattle.resource_types.specs.Lookups.{Journal, state, is_in_use}
 use Rattle.resource_types.specs.Manifests.{manifest_of}
 use Rattle.resource_codec.specs.Reading.{◌>>=◌}
 use Rattle.resource_codec.specs.Written.{written}
 use Rattle.resource_codec.specs.Views.{poll_of, list_of}
 use Rattle.validation.specs.Change.{change_fault}
 use Rattle.validation.specs.Defaults.{is_empty}
-use Rattle.manifest_intake.specs.Intake.{Purpose, create, replace, accepted}
-use Rattle.api_replies.specs.declared.outcome.Outcome.{Outcome}
-use Rattle.api_replies.specs.declared.refusal.Refusal.{Refusal}
-use Rattle.api_replies.specs.declared.refusal.Refusal.TheVariants.{NoSuchPath, VersionMissing, BeyondNewest}
-use Rattle.api_replies.specs.Replies.{reply_of, shown, removed}
-use Rattle.api_replies.specs.Outcomes.{Answer, keeps, only}
+use Rattle.manifest_intake.specs.Intake.{create, replace}
+use Rattle.api_outcomes.specs.declared.outcome.Outcome.{Outcome}
+use Rattle.api_outcomes.specs.declared.refusal.Refusal.TheVariants.{NoSuchPath, VersionMissing, InUse, BeyondNewest}
+use Rattle.api_outcomes.specs.Replies.{reply_of, shown, removed}
+use Rattle.api_outcomes.specs.Outcomes.{Answer, only}
 use Rattle.resource_types.specs.Manifests.{object_kind}
-use Rattle.api_objects.specs.Puts.{readable, taken, standing, there, not_there, changed_well, is_version_of, conflict, plan_of, makes, replaces}
+use Rattle.api_puts.specs.Puts.{standing, plan_of, makes, replaces}
+use Rattle.api_calls.specs.Agreement.{manifest_in, there, not_there, changed_well, is_version_of, conflict}
 
 -- ---- the calls
 
 -- the kinds that have paths
 abbrev pub is_served : Kind → Bool
 is_served kind.Health = false
-is_served kind.Table = false
 is_served other = true
+
+-- the namespace that is asked for; the empty one stands for all
+abbrev pub space_asked : List ℕ → Option (List ℕ)
+space_asked [] = None
+space_asked (b ∷ bs) = Some (b ∷ bs)
 
 -- the kinds that clients remove
 abbrev pub is_removable : Kind → Bool
 is_removable kind.Service = true
 is_removable kind.Configuration = true
+is_removable kind.Revision = true
 is_removable kind.Route = true
 is_removable other = false
 
 -- a list
 unfoldable pub listing : Journal → Kind → List ℕ → Answer
 listing journal kind space = do
-  served ← keeps (is_served kind) NoSuchPath
-  Ok (only (reply_of 200 (data_of (list_of journal kind (Some space)))))
+  served ← requires_that (is_served kind) NoSuchPath
+  Ok (only (reply_of 200 (data_of (list_of journal kind (space_asked space)))))
 
 -- a poll
 unfoldable pub polling : Journal → Kind → List ℕ → ℕ → Answer
 polling journal kind space after = do
-  served ← keeps (is_served kind) NoSuchPath
-  within ← keeps (nat_le after (length journal)) (BeyondNewest after (length journal))
-  Ok (only (reply_of 200 (data_of (poll_of journal kind (Some space) after))))
+  served ← requires_that (is_served kind) NoSuchPath
+  within ← requires_that (nat_le after (length journal)) (BeyondNewest after (length journal))
+  Ok (only (reply_of 200 (data_of (poll_of journal kind (space_asked space) after))))
 
 -- one object
 unfoldable pub reading : Journal → Kind → List ℕ → List ℕ → Answer
 reading journal kind space name = do
-  served ← keeps (is_served kind) NoSuchPath
+  served ← requires_that (is_served kind) NoSuchPath
   o ← there kind name (standing journal kind space name)
   Ok (only (shown 200 o))
 
--- the manifest that a body gives, for a purpose
-unfoldable pub asked : Purpose → ClientKind → Option Json → Result Manifest Refusal
-asked purpose kind body = do
-  json ← readable body
-  taken (accepted purpose kind json)
-
 -- an object is made: the manifest, and then what stands
-unfoldable pub creating : Journal → ℕ → ClientKind → List ℕ → Option Json → Answer
-creating journal moment kind space body = do
-  m ← asked (create space) kind body
+unfoldable pub creating : Journal → ℕ → ClientKind → List ℕ → Json → Answer
+creating journal moment kind space json = do
+  m ← manifest_in (create space) kind json
   free ← not_there (object_kind kind) m.name (standing journal (object_kind kind) space m.name)
   Ok (makes journal moment kind space m.name m)
 
 -- a manifest is put over the object that stands: the version that stands, the template under its name
 unfoldable pub agreeing : Journal → ℕ → ClientKind → List ℕ → List ℕ → Object → Bool → Manifest → Answer
 agreeing journal moment kind space name old is_fresh m = do
-  fresh ← keeps is_fresh (conflict (object_kind kind) old)
+  fresh ← requires_that is_fresh (conflict (object_kind kind) old)
   kept ← changed_well (change_fault old m)
   Ok (replaces journal moment kind space name old m)
 
@@ -93,10 +93,10 @@ abbrev pub gives_version : Manifest → Bool
 gives_version m = not (is_empty m.version)
 
 -- an object is replaced: the manifest, its version, and then what stands
-unfoldable pub replacing : Journal → ℕ → ClientKind → List ℕ → List ℕ → Option Json → Answer
-replacing journal moment kind space name body = do
-  m ← asked (replace space name) kind body
-  given ← keeps (gives_version m) VersionMissing
+unfoldable pub replacing : Journal → ℕ → ClientKind → List ℕ → List ℕ → Json → Answer
+replacing journal moment kind space name json = do
+  m ← manifest_in (replace space name) kind json
+  given ← requires_that (gives_version m) VersionMissing
   replacing_with journal moment kind space name m
 
 -- the document of an object, which a patch changes: its manifest without a version
@@ -114,28 +114,28 @@ is_absent_or_fresh old given = is_empty given || is_version_of old given
 -- the patched document is put over what stands, as in a replacement, but its version may be absent
 unfoldable pub patching_over : Journal → ℕ → ClientKind → List ℕ → List ℕ → Object → Json → Answer
 patching_over journal moment kind space name old patched = do
-  m ← taken (accepted (replace space name) kind patched)
+  m ← manifest_in (replace space name) kind patched
   agreeing journal moment kind space name old (is_absent_or_fresh old m.version) m
 
--- a patch of what stands, if anything does
-unfoldable pub patching_with : Journal → ℕ → ClientKind → List ℕ → List ℕ → Json → Answer
-patching_with journal moment kind space name patch = do
+-- an object is patched: what stands, and then the patched document
+unfoldable pub patching : Journal → ℕ → ClientKind → List ℕ → List ℕ → Json → Answer
+patching journal moment kind space name patch = do
   old ← there (object_kind kind) name (standing journal (object_kind kind) space name)
   patching_over journal moment kind space name old (patched_document old patch)
-
--- an object is patched: the body, what stands, and then the patched document
-unfoldable pub patching : Journal → ℕ → ClientKind → List ℕ → List ℕ → Option Json → Answer
-patching journal moment kind space name body = do
-  patch ← readable body
-  patching_with journal moment kind space name patch
 
 -- the removal of an object
 unfoldable pub removes : Object → Outcome
 removes o = record { reply = removed; plan = Some (plan_of o.key (expect.At o.meta.stamp.version) change.Remove) }
 
--- an object is removed
+-- whether the object is a Revision that is in use
+abbrev pub is_used : Journal → Kind → Object → Bool
+is_used journal kind.Revision o = is_in_use (state journal) o.key.name
+is_used journal other o = false
+
+-- an object is removed: what stands, and that it isn't in use
 unfoldable pub removing : Journal → Kind → List ℕ → List ℕ → Answer
 removing journal kind space name = do
-  removable ← keeps (is_removable kind) NoSuchPath
+  removable ← requires_that (is_removable kind) NoSuchPath
   o ← there kind name (standing journal kind space name)
+  unused ← requires_that (not (is_used journal kind o)) (InUse o.key.name.name)
   Ok (removes o)

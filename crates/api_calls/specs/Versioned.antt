@@ -1,5 +1,5 @@
 -- A document that gives a version, and what it means that a patch is the put of one.
-use Rattle.std.specs.Prelude.{◌≡◌, ℕ, List, codes, Option, Some, Ok}
+use Rattle.std.specs.Prelude.{◌≡◌, ℕ, List, codes, Some, Ok}
 use Rattle.json_tree.specs.declared.value.Json.{Json, Str}
 use Rattle.json_tree.specs.declared.value.Json.TheViews.{out-Json}
 use Rattle.json_tree.specs.declared.value.Json.TheOpen.{Json-F}
@@ -10,8 +10,9 @@ use Rattle.resource_types.specs.Lookups.{Journal}
 use Rattle.resource_types.specs.Manifests.{object_kind}
 use Rattle.resource_codec.specs.Reading.{Member, under}
 use Rattle.resource_codec.specs.Written.{object_of}
-use Rattle.api_replies.specs.declared.outcome.Outcome.{Outcome}
-use Rattle.api_objects.specs.Puts.{standing, version_text}
+use Rattle.api_outcomes.specs.declared.outcome.Outcome.{Outcome}
+use Rattle.api_puts.specs.Puts.{standing}
+use Rattle.api_calls.specs.Agreement.{version_text}
 use Rattle.api_calls.specs.Calls.{patched_document, replacing}
 
 -- the members of a document, with the text as the `resourceVersion` of what stands under `metadata`, where that is an object
@@ -30,9 +31,7 @@ versioned version document = versioned_as version (out-Json document) document
 
 -- The reply and the write are those of a put over what stands, at the same moment: its body is what the patch makes of the document that
 -- stands, with the version that stands.
-pub record IsPutOf (journal : Journal) (moment : ℕ) (kind : ClientKind) (space name : List ℕ) (body : Option Json) (outcome : Outcome) : Type 0 where
+pub record IsPutOf (journal : Journal) (moment : ℕ) (kind : ClientKind) (space name : List ℕ) (patch : Json) (outcome : Outcome) : Type 0 where
   pub old : Object
-  pub patch : Json
-  pub given : body ≡ Some patch
   pub stands : standing journal (object_kind kind) space name ≡ Some old
-  pub put : replacing journal moment kind space name (Some (versioned (version_text old) (patched_document old patch))) ≡ Ok outcome
+  pub put : replacing journal moment kind space name (versioned (version_text old) (patched_document old patch)) ≡ Ok outcome

@@ -1,38 +1,25 @@
 //! Making an object.
-ghost use Rattle.std.specs.Prelude.{◌≡◌, ◌<◌, ◌-◌, ◌^◌, length, IsTrue, IfOk};
-ghost use Rattle.std.specs.Option.{option_copied, ForSome};
-ghost use Rattle.api_calls.specs.Calls as spec;
-ghost use Rattle.api_objects.specs.Puts.{not_there};
+ghost use Rattle.std.specs.Prelude.{IsTrue, IfOk};
+ghost use Rattle.answers.specs.Answers.{Comes};
 ghost use Rattle.serve_names.specs.Labels.{is_label_of};
-ghost use Rattle.resource_codec.specs.Storable.{AreStorable};
 ghost use Rattle.manifest_intake.specs.Bodies.{IsReadable};
-ghost use Rattle.api_replies.specs.Outcomes.{Comes, IsFit};
+ghost use Rattle.api_outcomes.specs.Outcomes.{TakesWrite, IsFit};
+ghost use Rattle.api_calls.specs.Calls as spec;
 
-use crate::asked::manifest_in;
-use api_objects::{Place, make, standing};
-use api_replies::{Outcome, Refusal, Stop};
-use json_tree::{Json, Text};
+use crate::lookups::{not_there, object_at};
+use crate::manifests::manifest_in;
+use answers::Stop;
+use api_outcomes::{Outcome, Refusal};
+use api_puts::{Place, make};
+use json_tree::Json;
 use manifest_intake::Purpose;
-use resource_types::{ClientKind, Kind, Object};
+use resource_types::{ClientKind, Object};
 use std::alloc::Global;
 use version_store::Store;
 
-/// Nothing where no object is found, and else that one of the name stands.
-fn not_there(alloc: Global, kind: Kind, name: &Text, found: Option<&Object>) -> Result<(), Stop>
-    ensures { Comes result (not_there kind name.now (option_copied found.entry)) }
-{
-    match found {
-        None => Ok(()),
-        Some(_) => Err(Stop::Refused(Refusal::AlreadyExists {
-            kind,
-            name: name.copy(alloc)?,
-        })),
-    }
-}
-
-/// Makes the object that a body asks for in a namespace.
+/// Makes the object that the value of a body asks for in a namespace.
 ///
-/// It is refused for the first of these that holds: a reason to refuse the body's manifest, and `AlreadyExists`.
+/// It is refused for the first of these that holds: a reason to refuse the manifest, and `AlreadyExists`.
 #[tactic(auto, unfolding(crate::specs::Calls::creating))]
 pub fn creating(
     alloc: Global,
@@ -40,29 +27,23 @@ pub fn creating(
     moment: u64,
     kind: ClientKind,
     space: &str,
-    body: Option<Json>,
-) -> Result<Outcome, Stop>
-    requires storable { AreStorable store.now.entries }
-    requires room { length store.now.entries < 2 ^ 64 - 1 }
+    json: &Json,
+) -> Result<Outcome, Stop<Refusal>>
+    requires journal { TakesWrite store.now.entries }
     requires label { IsTrue (is_label_of space.now 63) }
-    requires body { ForSome body IsReadable }
-    ensures answer { Comes result (spec.creating store.now.entries moment kind space.now body) }
+    requires body { IsReadable json.now }
+    ensures answer { Comes result (spec.creating store.now.entries moment kind space.now json.now) }
     ensures fits { IfOk result (IsFit store.now.entries) }
 {
-    let manifest = manifest_in(alloc, Purpose::Create { space }, kind, body)?;
+    let manifest = manifest_in(alloc, Purpose::Create { space }, kind, json)?;
     let name = manifest.name.copy(alloc)?;
-    let space = Text::new(alloc, space)?;
-    let of_kind = kind.kind();
-    not_there(
-        alloc,
-        of_kind,
-        &name,
-        standing(store, of_kind, &space, &name),
-    )?;
     let place = Place {
         kind,
-        space: &space,
-        name: &name,
+        space,
+        name: name.as_str(),
     };
+    let of_kind = kind.kind();
+    let found = object_at(store, of_kind, space, place.name);
+    not_there(alloc, of_kind, place.name, found)?;
     Ok(make(alloc, store, moment, place, manifest)?)
 }

@@ -4,8 +4,10 @@
 //! Nothing is changed here: a write is a plan, which the API server makes once the whole reply is there.
 #![tactic(auto)]
 
-mod asked;
+mod agreement;
 mod create;
+mod lookups;
+mod manifests;
 mod patch;
 mod reads;
 mod remove;

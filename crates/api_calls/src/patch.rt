@@ -1,23 +1,27 @@
 //! Patching an object (RFC 7396).
 ghost use Rattle.std.specs.Prelude.{◌≡◌, ◌<◌, ◌-◌, ◌^◌, length, IsTrue, IfOk};
-ghost use Rattle.std.specs.Option.{ForSome};
-ghost use Rattle.api_calls.specs.Calls as spec;
-ghost use Rattle.api_calls.specs.Versioned.{IsPutOf};
+ghost use Rattle.answers.specs.Answers.{Comes};
 ghost use Rattle.serve_names.specs.Labels.{is_label_of};
 ghost use Rattle.resource_types.specs.Manifests.{object_kind};
-ghost use Rattle.resource_codec.specs.Storable.{AreStorable};
 ghost use Rattle.manifest_intake.specs.Bodies.{IsReadable};
-ghost use Rattle.api_objects.specs.Puts.{StandsAs, IsPatchable};
-ghost use Rattle.api_replies.specs.Outcomes.{Comes, IsFit};
+ghost use Rattle.api_outcomes.specs.Outcomes.{TakesWrite, IsFit};
+ghost use Rattle.api_puts.specs.Puts.{StandsAs};
+ghost use Rattle.api_calls.specs.Agreement.{IsPatchable};
+ghost use Rattle.api_calls.specs.Calls as spec;
+ghost use Rattle.api_calls.specs.Versioned.{IsPutOf};
 
+use crate::agreement::is_version_of;
+use crate::lookups::there;
+use crate::manifests::manifest_in;
 use crate::replace::agreeing;
-use api_objects::{Place, is_version_of, readable, taken, there};
-use api_replies::{Outcome, Stop};
+use answers::Stop;
+use api_outcomes::{Outcome, Refusal};
+use api_puts::Place;
 use json_tree::{Json, Text};
 use manifest_intake::Purpose;
 use merge_patch::merge;
 use resource_codec::encode_manifest;
-use resource_types::{ClientKind, Object, manifest_of};
+use resource_types::{Object, manifest_of};
 use std::alloc::{AllocError, Global};
 use version_store::Store;
 
@@ -59,7 +63,7 @@ fn patch_over(
     place: Place<'_>,
     old: &Object,
     patched: &Json,
-) -> Result<Outcome, Stop>
+) -> Result<Outcome, Stop<Refusal>>
     requires room { length store.now.entries < 2 ^ 64 - 1 }
     requires label { IsTrue (is_label_of place.space.now 63) }
     requires old { StandsAs store.now.entries (object_kind place.kind) place.space.now place.name.now old.now }
@@ -68,65 +72,35 @@ fn patch_over(
     ensures fits { IfOk result (IsFit store.now.entries) }
 {
     let purpose = Purpose::Replace {
-        space: place.space.as_str(),
-        name: place.name.as_str(),
+        space: place.space,
+        name: place.name,
     };
-    let manifest = taken(alloc, purpose, place.kind, patched)?;
+    let manifest = manifest_in(alloc, purpose, place.kind, patched)?;
     let is_fresh = is_absent_or_fresh(alloc, old, &manifest.version)?;
     agreeing(alloc, store, moment, place, old, is_fresh, manifest)
 }
 
-/// Changes the object that stands as a patch says.
-#[tactic(auto, unfolding(crate::specs::Calls::patching_with))]
-fn patch_standing(
+/// Changes the object that stands as the value of a body says.
+///
+/// It is refused for the first of these that holds: `NotFound`, a reason to refuse the manifest of the patched document, `Conflict`,
+/// where that gives a version, and `KeptName`.
+#[tactic(auto, unfolding(crate::specs::Calls::patching))]
+pub fn patching(
     alloc: Global,
     store: &Store<Object>,
     moment: u64,
     place: Place<'_>,
     patch: &Json,
-) -> Result<Outcome, Stop>
-    requires storable { AreStorable store.now.entries }
-    requires room { length store.now.entries < 2 ^ 64 - 1 }
+) -> Result<Outcome, Stop<Refusal>>
+    requires journal { TakesWrite store.now.entries }
     requires label { IsTrue (is_label_of place.space.now 63) }
-    requires patch { IsReadable patch.now }
-    ensures answer { Comes result (spec.patching_with store.now.entries moment place.entry.kind place.entry.space.now place.entry.name.now patch.now) }
+    requires body { IsReadable patch.now }
+    ensures answer { Comes result (spec.patching store.now.entries moment place.entry.kind place.entry.space.now place.entry.name.now patch.now) }
+    ensures as_put { IfOk result (IsPutOf store.now.entries moment place.entry.kind place.entry.space.now place.entry.name.now patch.now) }
     ensures fits { IfOk result (IsFit store.now.entries) }
 {
     let of_kind = place.kind.kind();
     let old = there(alloc, store, of_kind, place.space, place.name)?;
     let document = patched(alloc, old, patch)?;
     patch_over(alloc, store, moment, place, old, &document)
-}
-
-/// Changes the object that stands as a body says.
-///
-/// It is refused for the first of these that holds: an unreadable body, `NotFound`, a reason to refuse the manifest of the patched
-/// document, `Conflict`, where that gives a version, and `KeptName`.
-#[tactic(auto, unfolding(crate::specs::Calls::patching))]
-pub fn patching(
-    alloc: Global,
-    store: &Store<Object>,
-    moment: u64,
-    kind: ClientKind,
-    space: &str,
-    name: &str,
-    body: Option<Json>,
-) -> Result<Outcome, Stop>
-    requires storable { AreStorable store.now.entries }
-    requires room { length store.now.entries < 2 ^ 64 - 1 }
-    requires label { IsTrue (is_label_of space.now 63) }
-    requires body { ForSome body IsReadable }
-    ensures answer { Comes result (spec.patching store.now.entries moment kind space.now name.now body) }
-    ensures as_put { IfOk result (λ o. IsPutOf store.now.entries moment kind space.now name.now body o) }
-    ensures fits { IfOk result (IsFit store.now.entries) }
-{
-    let patch = readable(body)?;
-    let space = Text::new(alloc, space)?;
-    let name = Text::new(alloc, name)?;
-    let place = Place {
-        kind,
-        space: &space,
-        name: &name,
-    };
-    patch_standing(alloc, store, moment, place, &patch)
 }

@@ -1,14 +1,16 @@
 //! Removing an object.
-ghost use Rattle.std.specs.Prelude.{◌≡◌, IfOk};
+ghost use Rattle.std.specs.Prelude.{◌≡◌, not, IfOk};
+ghost use Rattle.answers.specs.Answers.{Comes, requires_that};
 ghost use Rattle.api_calls.specs.Calls as spec;
 ghost use Rattle.resource_types.specs.Lookups.{Journal, state};
 ghost use Rattle.resource_codec.specs.Storable.{AreStorable};
-ghost use Rattle.api_replies.specs.Outcomes.{Comes, IsClientRemoval, IsFit};
+ghost use Rattle.api_outcomes.specs.Outcomes.{IsClientRemoval, IsFit};
 
-use api_objects::there;
-use api_replies::{Outcome, Refusal, Stop, keep, removed};
-use json_tree::{Copied, Text};
-use resource_types::{Kind, Object};
+use crate::lookups::there;
+use answers::{Stop, require};
+use api_outcomes::{Outcome, Refusal, removed};
+use json_tree::Copied;
+use resource_types::{Kind, Object, in_use};
 use std::alloc::{AllocError, Global};
 use version_store::{Change, Expect, Plan, Store};
 
@@ -17,9 +19,35 @@ fn is_removable(kind: Kind) -> bool
     ensures { result ≡ spec.is_removable kind }
 {
     match kind {
-        Kind::Service | Kind::Configuration | Kind::Route => true,
+        Kind::Service | Kind::Configuration | Kind::Revision | Kind::Route => true,
         _ => false,
     }
+}
+
+/// Whether the object is a Revision that is in use.
+fn is_used(store: &Store<Object>, kind: Kind, object: &Object) -> bool
+    ensures { result ≡ spec.is_used store.now.entries kind object.now }
+{
+    match kind {
+        Kind::Revision => in_use(store, &object.key.name),
+        _ => false,
+    }
+}
+
+/// Nothing where the object isn't in use, and else that it is.
+fn require_unused(
+    alloc: Global,
+    store: &Store<Object>,
+    kind: Kind,
+    object: &Object,
+) -> Result<(), Stop<Refusal>>
+    ensures { Comes result (requires_that (not (spec.is_used store.now.entries kind object.now)) (Refusal.InUse object.now.key.name.name)) }
+{
+    if is_used(store, kind, object) {
+        let name = object.key.name.name.copy(alloc)?;
+        return Err(Stop::Refused(Refusal::InUse { name }));
+    }
+    Ok(())
 }
 
 /// The removal of an object, as it stands.
@@ -41,8 +69,10 @@ fn removal_of(alloc: Global, object: &Object) -> Result<Outcome, AllocError>
     })
 }
 
-/// Removes the object of a namespace and a name. `NotFound` refuses it where there is none, and `NoSuchPath` where it is of a
-/// kind that clients don't remove.
+/// Removes the object of a namespace and a name.
+///
+/// It is refused for the first of these that holds: `NoSuchPath`, where clients don't remove the kind, `NotFound`, and `InUse`, where
+/// it is a Revision that is in use.
 #[tactic(auto, unfolding(crate::specs::Calls::removing))]
 pub fn removing(
     alloc: Global,
@@ -50,14 +80,13 @@ pub fn removing(
     kind: Kind,
     space: &str,
     name: &str,
-) -> Result<Outcome, Stop>
+) -> Result<Outcome, Stop<Refusal>>
     requires { AreStorable store.now.entries }
     ensures answer { Comes result (spec.removing store.now.entries kind space.now name.now) }
     ensures fits { IfOk result (IsFit store.now.entries) }
 {
-    keep(is_removable(kind), Refusal::NoSuchPath)?;
-    let space = Text::new(alloc, space)?;
-    let name = Text::new(alloc, name)?;
-    let object = there(alloc, store, kind, &space, &name)?;
+    require(is_removable(kind), Refusal::NoSuchPath)?;
+    let object = there(alloc, store, kind, space, name)?;
+    require_unused(alloc, store, kind, object)?;
     Ok(removal_of(alloc, object)?)
 }

@@ -1,26 +1,28 @@
 //! Replacing an object.
 ghost use Rattle.std.specs.Prelude.{◌≡◌, ◌<◌, ◌-◌, ◌^◌, length, IsTrue, IfOk};
-ghost use Rattle.std.specs.Option.{ForSome};
-ghost use Rattle.api_calls.specs.Calls as spec;
+ghost use Rattle.answers.specs.Answers.{Comes};
 ghost use Rattle.serve_names.specs.Labels.{is_label_of};
 ghost use Rattle.resource_types.specs.Manifests.{object_kind};
-ghost use Rattle.resource_codec.specs.Storable.{AreStorable};
 ghost use Rattle.manifest_intake.specs.Bodies.{IsReadable};
-ghost use Rattle.api_objects.specs.Puts.{StandsAs, AsksFor};
-ghost use Rattle.api_replies.specs.Outcomes.{Comes, IsFit};
+ghost use Rattle.api_outcomes.specs.Outcomes.{TakesWrite, IsFit};
+ghost use Rattle.api_puts.specs.Puts.{StandsAs, AsksFor};
+ghost use Rattle.api_calls.specs.Calls as spec;
 
-use crate::asked::manifest_in;
-use api_objects::{Place, agree, changed_well, is_version_of, replace, there};
-use api_replies::{Outcome, Refusal, Stop, keep};
-use json_tree::{Json, Text};
+use crate::agreement::{changed_well, is_version_of, require_fresh};
+use crate::lookups::there;
+use crate::manifests::manifest_in;
+use answers::{Stop, require};
+use api_outcomes::{Outcome, Refusal};
+use api_puts::{Place, replace};
+use json_tree::Json;
 use manifest_intake::Purpose;
-use resource_types::{ClientKind, Manifest, Object};
+use resource_types::{Manifest, Object};
 use std::alloc::Global;
 use version_store::Store;
 
 /// Puts a manifest over the object that stands, where the version agrees and no template changes under its name.
 #[tactic(auto, unfolding(crate::specs::Calls::agreeing))]
-pub fn agreeing(
+pub(crate) fn agreeing(
     alloc: Global,
     store: &Store<Object>,
     moment: u64,
@@ -28,7 +30,7 @@ pub fn agreeing(
     old: &Object,
     is_fresh: bool,
     manifest: Manifest,
-) -> Result<Outcome, Stop>
+) -> Result<Outcome, Stop<Refusal>>
     requires room { length store.now.entries < 2 ^ 64 - 1 }
     requires old { StandsAs store.now.entries (object_kind place.kind) place.space.now place.name.now old.now }
     requires asks { AsksFor place.kind place.space.now place.name.now manifest }
@@ -36,7 +38,7 @@ pub fn agreeing(
         old.now is_fresh manifest) }
     ensures fits { IfOk result (IsFit store.now.entries) }
 {
-    agree(alloc, is_fresh, place.kind.kind(), old)?;
+    require_fresh(alloc, is_fresh, place.kind.kind(), old)?;
     changed_well(old, &manifest)?;
     Ok(replace(alloc, store, moment, place, old, manifest)?)
 }
@@ -49,9 +51,8 @@ fn replace_standing(
     moment: u64,
     place: Place<'_>,
     manifest: Manifest,
-) -> Result<Outcome, Stop>
-    requires storable { AreStorable store.now.entries }
-    requires room { length store.now.entries < 2 ^ 64 - 1 }
+) -> Result<Outcome, Stop<Refusal>>
+    requires journal { TakesWrite store.now.entries }
     requires asks { AsksFor place.kind place.space.now place.name.now manifest }
     ensures answer { Comes result (spec.replacing_with store.now.entries moment place.entry.kind place.entry.space.now place.entry.name.now
         manifest) }
@@ -69,35 +70,29 @@ fn gives_version(manifest: &Manifest) -> bool
     !manifest.version.is_empty()
 }
 
-/// Puts the object that a body asks for in place of the one that stands.
+/// Puts the object that the value of a body asks for in place of the one that stands.
 ///
-/// It is refused for the first of these that holds: a reason to refuse the body's manifest, `VersionMissing`, `NotFound`,
-/// `Conflict`, and `KeptName`.
+/// It is refused for the first of these that holds: a reason to refuse the manifest, `VersionMissing`, `NotFound`, `Conflict`, and
+/// `KeptName`.
 #[tactic(auto, unfolding(crate::specs::Calls::replacing))]
 pub fn replacing(
     alloc: Global,
     store: &Store<Object>,
     moment: u64,
-    kind: ClientKind,
-    space: &str,
-    name: &str,
-    body: Option<Json>,
-) -> Result<Outcome, Stop>
-    requires storable { AreStorable store.now.entries }
-    requires room { length store.now.entries < 2 ^ 64 - 1 }
-    requires label { IsTrue (is_label_of space.now 63) }
-    requires body { ForSome body IsReadable }
-    ensures answer { Comes result (spec.replacing store.now.entries moment kind space.now name.now body) }
+    place: Place<'_>,
+    json: &Json,
+) -> Result<Outcome, Stop<Refusal>>
+    requires journal { TakesWrite store.now.entries }
+    requires label { IsTrue (is_label_of place.space.now 63) }
+    requires body { IsReadable json.now }
+    ensures answer { Comes result (spec.replacing store.now.entries moment place.entry.kind place.entry.space.now place.entry.name.now json.now) }
     ensures fits { IfOk result (IsFit store.now.entries) }
 {
-    let manifest = manifest_in(alloc, Purpose::Replace { space, name }, kind, body)?;
-    keep(gives_version(&manifest), Refusal::VersionMissing)?;
-    let space = Text::new(alloc, space)?;
-    let name = Text::new(alloc, name)?;
-    let place = Place {
-        kind,
-        space: &space,
-        name: &name,
+    let purpose = Purpose::Replace {
+        space: place.space,
+        name: place.name,
     };
+    let manifest = manifest_in(alloc, purpose, place.kind, json)?;
+    require(gives_version(&manifest), Refusal::VersionMissing)?;
     replace_standing(alloc, store, moment, place, manifest)
 }

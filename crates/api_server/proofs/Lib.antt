@@ -1,4 +1,5 @@
-pub mod Changes
+pub mod Replies
 pub mod Unique
 pub mod AsPut
 pub mod Handles
+pub mod Steps

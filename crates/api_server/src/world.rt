@@ -1,118 +1,80 @@
-//! The world: its journal, its moment and its marks, and how it answers requests.
-ghost use Rattle.std.specs.Prelude.{◌≡◌, ◌≤◌, ◌<◌, ◌-◌, ◌^◌, [], length, IfOk, OnErr};
-ghost use Rattle.http_session.specs.Reply.{IsReply};
+//! The world: its plane and its marks, and how it answers requests.
+ghost use Rattle.std.specs.Prelude.{◌≡◌, ◌≢◌, ◌⊎◌, ◌≤◌, ◌↔◌, [], IfOk, OnOk, OnErr, IsErr};
 ghost use Rattle.std.specs.Option.{ForSome};
+ghost use Rattle.serve_names.specs.Moments.{last_moment};
+ghost use Rattle.manifest_intake.specs.Good.{is_good};
+ghost use Rattle.control_rules.specs.Slots.{new_plane};
+ghost use Rattle.control_rules.specs.Facts.{IsKept};
 ghost use Rattle.api_server.specs.Ask as spec;
-ghost use Rattle.resource_codec.specs.Storable.{AreStorable};
-ghost use Rattle.api_replies.specs.Outcomes.{CanBeMade};
 
-use crate::answers::answer;
 use crate::mark::Mark;
+use crate::requests::answer;
 use http_session::{Handler, Reply, Request};
 use json_tree::Seq;
-use resource_types::{Actor, Object};
 use std::alloc::{AllocError, Global};
 use std::marker::Model;
-use version_store::{Plan, Store, Write};
+use step_scheduler::{Plane, Settings, SettingsKept, StepOutcome};
 
-/// A world: the store of all that was written, the moment, and a mark for each request that was answered.
+/// A world: the plane, the number of automatic steps behind each reply, and a mark for each request that was answered.
 ///
-/// Contracts see it as its journal, its moment and its marks.
+/// Contracts see it as these three.
 #[derive(Drop)]
 pub struct World {
     alloc: Global,
-    store: Store<Object>,
-    moment: u64,
+    plane: Plane,
+    auto: u64,
     marks: Seq<Mark>,
 }
 
 impl Model for World {
-    ghost use Rattle.std.specs.Prelude.{◌≤◌};
-    ghost use Rattle.api_server.specs.Ask.{State};
-    ghost use Rattle.api_server.specs.World.{IsSound};
+    ghost use Rattle.api_server.specs.Ask.{WorldView};
     ghost use Rattle.json_tree.specs.contracts.value.Json as json;
     ghost use Rattle.std.specs.Coded.{codes};
 
-    ghost Value = { State };
+    ghost Value = { WorldView };
 
     ghost coded = { Prim.hlevel (codes, json.the_row.coded) };
 
-    ghost view = { λ w. record { journal = w.store.entries; moment = w.moment; marks = w.marks } };
-
-    ghost invariant = { λ w. IsSound w.store.entries w.moment };
-}
-
-/// Makes a client's write, if there is one.
-#[tactic(auto, unfolding(crate::specs::Ask::journal_after))]
-fn apply(store: &mut Store<Object>, moment: u64, plan: Option<Plan<Object>>)
-    requires spare { 1 ≤ store.old.spare }
-    requires room { length store.old.entries < 2 ^ 64 - 1 }
-    requires storable { AreStorable store.old.entries }
-    requires plan { ForSome plan (CanBeMade store.old.entries) }
-    ensures entries { store.new.entries ≡ spec.journal_after store.old.entries moment plan }
-    ensures storable { AreStorable store.new.entries }
-{
-    let seen = store.version();
-    if let Some(plan) = plan {
-        let _applied = store.apply(Write {
-            plan,
-            actor: Actor::Client,
-            seen,
-            read_at: moment,
-            moment,
-        });
-    }
-}
-
-/// Answers a request at a moment: notes its mark and makes its write, or neither.
-fn answer_at(
-    alloc: Global,
-    store: &mut Store<Object>,
-    marks: &mut Seq<Mark>,
-    moment: u64,
-    request: &Request,
-) -> Result<Reply, AllocError>
-    requires storable { AreStorable store.old.entries }
-    ensures answered { IfOk result (spec.AnswersAt store.old.entries store.new.entries marks.old marks.new moment request.now) }
-    ensures reply { IfOk result IsReply }
-    ensures storable { AreStorable store.new.entries }
-    ensures cut { OnErr result ((store.new.entries ≡ store.old.entries) × (marks.new ≡ marks.old)) }
-{
-    store.prepare()?;
-    let outcome = answer(alloc, store, moment, request)?;
-    let position = store.version();
-    marks.push(Mark { position, moment })?;
-    apply(store, moment, outcome.plan);
-    Ok(outcome.reply)
+    ghost view = { λ w. record { plane = w.plane.plane; auto = w.auto; marks = w.marks } };
 }
 
 impl World {
-    /// A world in which nothing was written, at moment 0.
-    pub fn new(alloc: Global) -> World
-        ensures journal { result.journal ≡ [] }
-        ensures moment { result.moment ≡ 0 }
+    /// A world in which nothing was written, at moment 0, without automatic steps.
+    pub fn new(alloc: Global, settings: Settings) -> World
+        ensures plane { result.plane ≡ new_plane settings }
+        ensures auto { result.auto ≡ 0 }
         ensures marks { result.marks ≡ [] }
     {
         World {
             alloc,
-            store: Store::new(alloc),
-            moment: 0,
+            plane: Plane::new(alloc, settings),
+            auto: 0,
             marks: Seq::new(alloc),
         }
     }
 
-    /// All that was written, and what stands by it.
-    pub fn store(&self) -> &Store<Object>
-        ensures { result.now.entries ≡ self.now.journal }
+    /// The plane: all that was written, and what the controllers hold.
+    pub fn plane(&self) -> &Plane
+        ensures { result.now.plane ≡ self.now.plane }
     {
-        &self.store
+        &self.plane
     }
 
-    /// The moment, in whole seconds from 1970 in UTC, at most 253,402,300,799.
-    pub fn now(&self) -> u64
-        ensures { result ≡ self.now.moment }
+    /// Sets the settings of the controllers. Once something was written they are kept.
+    pub fn set_settings(&mut self, settings: Settings) -> Result<(), SettingsKept>
+        ensures ok { OnOk result (self.new ≡ record self.old { plane = record self.old.plane { settings = settings } }) }
+        ensures kept { IsErr result ↔ ((self.old.plane.journal ≢ []) × (self.old.plane.settings ≢ settings)) }
+        ensures taken { OnOk result ((self.old.plane.journal ≡ []) ⊎ (self.old.plane.settings ≡ settings)) }
+        ensures err { OnErr result (self.new ≡ self.old) }
     {
-        self.moment
+        self.plane.set_settings(settings)
+    }
+
+    /// Sets how many steps the controllers make behind each reply.
+    pub fn set_auto(&mut self, steps: u64)
+        ensures { self.new ≡ record self.old { auto = steps } }
+    {
+        self.auto = steps;
     }
 
     /// A mark for each request that was answered, in order.
@@ -122,21 +84,33 @@ impl World {
         &self.marks
     }
 
-    /// The moment of a request, which never falls.
-    fn moment_of(&self, now: Option<u64>) -> u64
-        requires { ForSome now (λ m. m ≤ 253402300799) }
-        ensures moment { result ≡ spec.later self.now.moment now }
-        ensures range { result ≤ 253402300799 }
+    // Moves the clock on to the moment of a request, where that is later.
+    fn move_clock(&mut self, now: Option<u64>)
+        requires { ForSome now (λ moment. moment ≤ last_moment) }
+        ensures { self.new ≡ record self.old { plane = spec.at_moment self.old.plane now } }
     {
         match now {
-            Some(now) => self.moment.max(now),
-            None => self.moment,
+            Some(now) if now > self.plane.now() => {
+                let _ = self.plane.set_clock(now);
+            }
+            _ => {}
+        }
+    }
+
+    // What the present request finds.
+    fn mark(&self) -> Mark
+        ensures mark { result ≡ spec.mark_at self.now.plane }
+        ensures kept { IsKept is_good self.now.plane }
+    {
+        Mark {
+            position: self.plane.store().version(),
+            moment: self.plane.now(),
         }
     }
 }
 
 impl Handler for World {
-    ghost use Rattle.api_server.specs.Ask.{Asks, AskCut, After};
+    ghost use Rattle.api_server.specs.Ask.{Asks, AskCut, After, AfterCut};
 
     ghost asks = { Asks };
 
@@ -144,27 +118,32 @@ impl Handler for World {
 
     ghost after_gives = { After };
 
-    ghost after_cut = { After };
+    ghost after_cut = { AfterCut };
 
-    /// Answers a request over the journal as it stands, and notes its mark.
+    /// Answers a request over the plane as it stands, and notes its mark.
     ///
-    /// After a refusal the journal is as before and the mark is added. After a want of memory the world is as before.
-    #[tactic(auto, using(crate::proofs::Handles::asks_of))]
+    /// After a refusal the plane is as before and the mark is added. After a want of memory there is no mark, and the plane is as
+    /// before, save that the clock may have moved and that a settle keeps the writes that were made before.
     fn handle(&mut self, now: Option<u64>, request: &Request) -> Result<Reply, AllocError> {
-        let moment = self.moment_of(now);
-        let reply = answer_at(
-            self.alloc,
-            &mut self.store,
-            &mut self.marks,
-            moment,
-            request,
-        )?;
-        self.moment = moment;
-        Ok(reply)
+        self.move_clock(now);
+        let mark = self.mark();
+        self.marks.push(mark)?;
+        match answer(self.alloc, &mut self.plane, request) {
+            Ok(reply) => Ok(reply),
+            Err(error) => {
+                self.marks.pop();
+                Err(error)
+            }
+        }
     }
 
-    /// Does nothing: there are no automatic steps.
+    /// Makes the automatic steps of the controllers, and ends early where there is nothing that they work on.
     fn after(&mut self) -> Result<(), AllocError> {
+        for _ in 0..self.auto {
+            if let StepOutcome::Empty = self.plane.cursor_step()? {
+                break;
+            }
+        }
         Ok(())
     }
 }

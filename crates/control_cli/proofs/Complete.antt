@@ -13,7 +13,7 @@ use Rattle.http_session.specs.Stream.{IsStream}
 use Rattle.http_session.specs.Session as session
 use Rattle.http_session.specs.Session.{SessionState, Finishes, IsAll}
 use Rattle.http_session.proofs.UniqueLemmas.{IsStream-unique, IsStream-append}
-use Rattle.api_server.specs.Ask.{State, Asks, AskCut, After}
+use Rattle.api_server.specs.Ask.{WorldView, Asks, AskCut, After, AfterCut}
 use Rattle.control_cli.specs.declared.status.Status.{Status}
 use Rattle.control_cli.specs.declared.status.Status.TheVariants.{Done, Memory as NoMemory}
 use Rattle.std.specs.Option.{IfSome}
@@ -58,7 +58,7 @@ not_long (Some xs) (Some ys) all bytes told took short long =
     let sum : length all ≡ length bytes + length ys = ap length (sym same ∙ took) ∙ length-append bytes ys in
     omega (arith, sum, short, long)
 
-ends : (old new : SessionState State) (answered : ℕ) (end : SessionEnd) → Finishes Asks AskCut After After Leave old new answered end
+ends : (old new : SessionState WorldView) (answered : ℕ) (end : SessionEnd) → Finishes Asks AskCut After AfterCut Leave old new answered end
     → (all : List ℕ) → old.left ≡ Some all → (asked : List Asked) → IsStream all asked stream.Clean ⊎ IsStream all asked stream.Closed
     → length all < 4294967295 → ¬ (Rose old.reads_failed new.reads_failed) → ¬ (Rose old.writes_failed new.writes_failed)
     → (status_of end ≡ Done) ⊎ (status_of end ≡ NoMemory)
@@ -74,8 +74,8 @@ ends old new answered TooLong a all told asked well short reads writes =
     absurd (not_long old.left new.left all a.bytes told a.served.consumed short a.end.1)
 ends old new answered Memory f all told asked well short reads writes = inr refl
 
-pub complete : (old new : SessionState State) (answered : ℕ) (end : SessionEnd) (status : Status) → status ≡ status_of end
-    → Finishes Asks AskCut After After Leave old new answered end → IsComplete old new status
+pub complete : (old new : SessionState WorldView) (answered : ℕ) (end : SessionEnd) (status : Status) → status ≡ status_of end
+    → Finishes Asks AskCut After AfterCut Leave old new answered end → IsComplete old new status
 complete old new answered end status is f = by_left old.left refl
   where
     by_left : (left : Option (List ℕ)) → old.left ≡ left

@@ -9,6 +9,7 @@ use serve_io::{MemClock, ReadSource, SureGate, WriteSink};
 use std::alloc::AllocError;
 use std::process::ExitCode;
 use std::{env, io};
+use step_scheduler::standard_settings;
 
 // The words behind the program's name. One that isn't UTF-8 is an error of kind `InvalidData`.
 fn words_of(rt: &HostRuntime) -> io::Result<Vec<Text>> {
@@ -23,7 +24,7 @@ fn words_of(rt: &HostRuntime) -> io::Result<Vec<Text>> {
 // The status of the command of the words, over a new world and the real ends.
 fn run_over_new_world(rt: &HostRuntime, words: &[Text]) -> Result<Status, AllocError> {
     let alloc = rt.alloc();
-    let mut world = World::new(alloc);
+    let mut world = World::new(alloc, standard_settings(alloc)?);
     let mut source = ReadSource::new(rt.reader());
     let mut sink = WriteSink::new(io::writer(rt));
     let mut clock = MemClock::new(Vec::new(alloc));
