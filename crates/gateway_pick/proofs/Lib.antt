@@ -1,0 +1,15 @@
+pub mod Along
+pub mod Places
+pub mod Shares
+pub mod Picked
+pub mod Lists
+pub mod UidBytes
+pub mod VersionDigits
+pub mod Searching
+pub mod Placed
+pub mod Readable
+pub mod Good
+pub mod ShownInOrder
+pub mod Written
+pub mod Followed
+pub mod Taken
