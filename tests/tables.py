@@ -14,6 +14,8 @@ import os
 import subprocess
 import sys
 
+from control_cases import CONTROL_TABLES
+
 ROOT = "/apis/serving.knative.dev/v1/namespaces"
 BLUE = ROOT + "/blue"
 PLURAL = {"Service": "services", "Configuration": "configurations", "Route": "routes"}
@@ -506,9 +508,35 @@ def checks():
 
 
 def words():
+    twice = ["--auto", "1", "--auto", "2"]
     for line in ([], ["walk"], ["Replay"], ["--help"], ["replay", "x"], ["replay", ""], ["replay", "--"], ["replay", "--help"],
-                 ["check", "-"], ["check", "-h"], ["replay", "check"]):
+                 ["check", "-"], ["check", "-h"], ["replay", "check"], ["check", "--auto", "1"], ["check", "--auto=1"], ["--auto", "1", "replay"],
+                 # Options: each once, with a value, which begins with no hyphen in a word of its own.
+                 ["replay", *twice], ["replay", "--auto=1", "--auto=1"], ["replay", "--domain", "a", "--auto=1", "--domain", "a"],
+                 ["replay", "--auto"], ["replay", "--auto", "--domain", "a"], ["replay", "--domain", "a", "--auto"], ["replay", "--domain", "-"],
+                 ["replay", "--domain", "-a"], ["replay", "--domain", "--"], ["replay", "--domain", "a", "--"], ["replay", "--domain", "a", "b"],
+                 ["replay", "-auto", "1"], ["replay", "-a", "1"], ["replay", "--aut", "1"], ["replay", "--Auto", "1"], ["replay", "--auto ", "1"],
+                 ["replay", "--=1"], ["replay", "auto=1"], ["replay", "--listen", "a"], ["replay", "--sessions", "1"],
+                 # The automatic steps: 1 to 10 digits, at most 10,000.
+                 ["replay", "--auto="], ["replay", "--auto", ""], ["replay", "--auto", "10001"], ["replay", "--auto", "00000000001"],
+                 ["replay", "--auto=-1"], ["replay", "--auto=+1"], ["replay", "--auto= 1"], ["replay", "--auto=1.0"], ["replay", "--auto==1"],
+                 # The domain: labels of at most 63 bytes joined by dots, at most 100 bytes.
+                 ["replay", "--domain="], ["replay", "--domain", ""], ["replay", "--domain=-"], ["replay", "--domain", "a..b"], ["replay", "--domain", "A"],
+                 ["replay", "--domain", "a" * 64], ["replay", "--domain", "a." * 50 + "a"],
+                 # The settings of collection: durations, counts or `disabled`, and the least not above the most, which is 1,000 unless given.
+                 ["replay", "--retain-since-create-time", "48"], ["replay", "--retain-since-create-time="],
+                 ["replay", "--retain-since-last-active-time", "1d"], ["replay", "--retain-since-last-active-time", "Disabled"],
+                 ["replay", "--min-non-active-revisions", "disabled"], ["replay", "--min-non-active-revisions", "1001"],
+                 ["replay", "--max-non-active-revisions", "19"], ["replay", "--max-non-active-revisions", "5h"],
+                 ["replay", "--min-non-active-revisions=3", "--max-non-active-revisions=2"]):
         yield line, "GET / HTTP/1.1\r\n\r\n", 2, b""
+    for line in (["--auto", "0"], ["--auto=10000"], ["--auto", "0000010000"], ["--domain", "a"], ["--domain=a" + ".a" * 49], ["--domain", "a" * 63],
+                 ["--retain-since-create-time", "0h"], ["--retain-since-create-time=disabled"], ["--retain-since-last-active-time", "1h30s"],
+                 ["--min-non-active-revisions", "1000"], ["--max-non-active-revisions=20"], ["--max-non-active-revisions", "disabled"],
+                 ["--min-non-active-revisions", "9999999999", "--max-non-active-revisions", "disabled"],
+                 ["--max-non-active-revisions=2", "--min-non-active-revisions=2", "--retain-since-last-active-time", "disabled",
+                  "--retain-since-create-time=1h", "--domain", "blue.example.com", "--auto", "7"]):
+        yield ["replay", *line], "", 0, b""
 
 
 def ends(program):
@@ -610,7 +638,7 @@ def end_faults(program, table):
     return len(found), [f"{name}: {status}, not {due}" for name, status, due in found if status != due]
 
 
-TABLES = ((request_faults, (shapes, rule_cases, paths, queries, calls, merges, defaults, values)),
+TABLES = ((request_faults, (shapes, rule_cases, paths, queries, calls, merges, defaults, values, *CONTROL_TABLES)),
           (run_faults, (bad_heads, streams, checks, words)), (end_faults, (ends,)))
 
 
