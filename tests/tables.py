@@ -248,8 +248,8 @@ def paths():
     objects = [(f"{BLUE}/{p}/x", named) for p in PLURAL.values()]
     others = [(f"{BLUE}/revisions", {"GET": 200}), (f"{BLUE}/revisions/x", {"GET": 404, "DELETE": 404}),
               (f"{ROOT}/{'a' * 63}/routes", {"GET": 200, "POST": 400})]
-    control = [(f"/control/{p}", {"POST": 404}) for p in ("reports", "clock", "steps", "settle")]
-    control += [(f"/control/{p}", {"GET": 404}) for p in ("tables", "summary")]
+    control = [(f"/control/{p}", {"POST": 400}) for p in ("reports", "clock", "steps")] + [("/control/settle", {"POST": 200})]
+    control += [(f"/control/{p}", {"GET": 200}) for p in ("tables", "summary")]
     for path, has in collections + objects + others + control:
         for method in METHODS:
             if method in has:
