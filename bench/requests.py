@@ -75,15 +75,15 @@ def requests(count, objects):
     return made[:count]
 
 
-def main(program, count=20000, objects=200):
-    made = requests(int(count), int(objects))
+def run_on(words, made):
+    """Runs the words on the stream of these requests, prints how long it took, and gives the status."""
     with tempfile.TemporaryFile() as stream, tempfile.TemporaryFile() as replies, tempfile.NamedTemporaryFile() as memory:
         for one in made:
             stream.write(one)
         size = stream.tell()
         stream.seek(0)
         begin = time.monotonic()
-        timed = ["/usr/bin/time", "--quiet", "--format=%M", f"--output={memory.name}", program, "replay"]
+        timed = ["/usr/bin/time", "--quiet", "--format=%M", f"--output={memory.name}", *words]
         run = subprocess.run(timed, stdin=stream, stdout=replies, check=False)
         took = time.monotonic() - begin
         replies.seek(0)
@@ -93,6 +93,10 @@ def main(program, count=20000, objects=200):
     print(f"{len(made)} requests ({size / 1e6:.1f} MB in, {len(output) / 1e6:.1f} MB out, {refused} refused): "
           f"{took:.3f} s, {len(made) / took:,.0f} a second, {peak:.0f} MB at most")
     return run.returncode
+
+
+def main(program, count=20000, objects=200):
+    return run_on([program, "replay"], requests(int(count), int(objects)))
 
 
 if __name__ == "__main__":
