@@ -1,5 +1,5 @@
 //! The gateway.
-ghost use Rattle.std.specs.Prelude.{◌≡◌, ◌≢◌, ℕ, [], IfOk, IsErrOf, IsSome, OnOk, OnErr};
+ghost use Rattle.std.specs.Prelude.{◌≡◌, ◌≢◌, ℕ, [], IfOk, IsErrOf, IsSome, IsTrue, OnOk, OnErr};
 ghost use Rattle.std.specs.List.{list_any};
 ghost use Rattle.std.specs.Option.{option_copied, is_some};
 ghost use Rattle.json_tree.specs.declared.value.Json.{Json};
@@ -127,9 +127,12 @@ impl Gateway {
         Ok(())
     }
 
-    /// The rows of the first Table, by namespace and name, that has a row with the host; none where no Table has one.
+    /// The rows of the first Table, by namespace and name, that has a row with the host; none where no Table has one. `pick_among` picks
+    /// among them.
     pub fn rows_for(&self, host: &[u8]) -> &[Row]
-        ensures { result.now ≡ rows_for host.now self.now.tables }
+        ensures rows { result.now ≡ rows_for host.now self.now.tables }
+        ensures evenly { IsTrue (list_any (has_host host.now) self.now.tables)
+            → (first : ℕ) → PicksEvenly self.now.tables host.now first }
     {
         rows_for(&self.tables, host)
     }
