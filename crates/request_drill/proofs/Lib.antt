@@ -1,0 +1,4 @@
+pub mod Adding
+pub mod Running
+pub mod Keeping
+pub mod Lengths
