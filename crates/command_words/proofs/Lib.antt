@@ -1,6 +1,8 @@
+pub mod Given
 pub mod OptionTexts
 pub mod OptionRules
 pub mod OptionWalk
 pub mod OptionWords
 pub mod PlaneOptions
 pub mod Commands
+pub mod Within

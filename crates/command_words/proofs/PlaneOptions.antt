@@ -1,12 +1,11 @@
 -- What texts say of a plane.
-use Rattle.std.proofs.Common.{◌≡◌, ◌∙◌, ℕ, Bool, true, false, List, Option, Some, None, refl, sym, ap, codes, cond}
+use Rattle.std.proofs.Common.{◌≡◌, ◌∙◌, ℕ, Bool, true, false, Option, Some, None, refl, ap, codes, cond}
 use Rattle.std.specs.Prelude.{option_and_then, unwrap_or}
 use Rattle.serve_names.specs.Labels.{is_domain_of}
 use Rattle.control_rules.specs.declared.settings.GcSettings.{GcSettings}
-use Rattle.command_words.specs.Options.{GivesValues, Word, value_of}
-use Rattle.command_words.specs.Settings.{IsReplay, count_between, gc_in, names, options_of}
+use Rattle.command_words.specs.Options.{Word}
+use Rattle.command_words.specs.Settings.{count_between, gc_in, options_of}
 use Rattle.command_words.specs.declared.settings.Options.{Options}
-use Rattle.command_words.proofs.OptionWords.{one_value}
 
 module _ (steps : Word) (value : Word → Option Word) where
   abbrev pub steps_text : Word
@@ -52,20 +51,3 @@ module _ (steps : Word) (value : Word → Option Word) where
       go None b = refl
       go (Some a) false = refl
       go (Some a) true = refl
-
--- ---- the words of `replay`
-
-module _ (words : List Word) (value : Word → Option Word) (read : GivesValues names words value) where
-  same_values : value ≡ (λ name. value_of name read.0)
-  same_values = λ i name. read.2 name i
-
-  pub replay_read : (options : Options) → options_of (codes "0") value ≡ Some options → IsReplay words options
-  replay_read options is = (read.0, read.1, sym (ap (options_of (codes "0")) same_values) ∙ is)
-
-  -- the words give a name one value at most, so that no other reading says more
-  pub replay_refused : options_of (codes "0") value ≡ None → (options : Options) → ¬ (IsReplay words options)
-  replay_refused none options replay =
-      let others : ◌≡◌ {A = Word → Option Word} (λ name. value_of name read.0) (λ name. value_of name replay.0) =
-      λ i name. one_value names words refl read.0 replay.0 read.1 replay.1 name i in
-      let bad : None ≡ Some options = sym none ∙ ap (options_of (codes "0")) same_values ∙ ap (options_of (codes "0")) others ∙ replay.2 in
-      cc

@@ -43,6 +43,10 @@ abbrev pub names : List Word
 names = codes "auto" ∷ codes "domain" ∷ codes "retain-since-create-time" ∷ codes "retain-since-last-active-time"
     ∷ codes "min-non-active-revisions" ∷ codes "max-non-active-revisions" ∷ []
 
+-- the words are options of these names, and their values say this
+abbrev pub IsGiven : {A : Type 0} → List Word → ((Word → Option Word) → Option A) → List Word → A → Type 0
+IsGiven names of words a = (given : List Given) × Gives names words given × (of (λ name. value_of name given) ≡ Some a)
+
 -- the words are those of `replay` with these options: no automatic steps unless they are given
 abbrev pub IsReplay : List Word → Options → Type 0
-IsReplay words options = (given : List Given) × Gives names words given × (options_of (codes "0") (λ name. value_of name given) ≡ Some options)
+IsReplay words options = IsGiven names (options_of (codes "0")) words options

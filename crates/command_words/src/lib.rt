@@ -5,7 +5,11 @@
 
 mod command;
 mod options;
+mod picking;
+mod serving;
 mod settings;
 
 pub use command::{Command, WordsError, read_command};
+pub use picking::Picking;
+pub use serving::Serving;
 pub use settings::Options;

@@ -36,7 +36,7 @@ pub struct Options {
 }
 
 /// The number of 1 to 10 digits, where it is from `least` to `most`.
-fn count_between(text: &str, least: u64, most: u64) -> Option<u64>
+pub(crate) fn count_between(text: &str, least: u64, most: u64) -> Option<u64>
     ensures { result ≡ count_between least most text.now }
 {
     let count = read_count(text.as_bytes())?;
@@ -48,7 +48,7 @@ fn count_between(text: &str, least: u64, most: u64) -> Option<u64>
 }
 
 /// The value of the option, or the standard text where none is given.
-fn value_or<'a>(matches: &ArgMatches<'a>, name: &str, standard: &'a str) -> &'a str
+pub(crate) fn value_or<'a>(matches: &ArgMatches<'a>, name: &str, standard: &'a str) -> &'a str
     ensures { result.now ≡ unwrap_or (first_value (found_of matches.now) name.now) standard.entry.now }
 {
     match matches.get_str(name) {
@@ -81,7 +81,7 @@ fn read_gc(
 
 /// The options that the matches give, with `steps` as the standard text of the automatic steps. `Usage` comes exactly where
 /// a text says nothing.
-fn options_in<'a>(
+pub(crate) fn options_in<'a>(
     alloc: Global,
     matches: &ArgMatches<'a>,
     steps: &'a str,

@@ -1,4 +1,8 @@
 pub mod Status
 pub mod Ends
-pub mod Checks
 pub mod Runs
+pub mod Checks
+pub mod Picks
+pub mod Serves
+pub mod Drills
+pub mod Commands

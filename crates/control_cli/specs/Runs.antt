@@ -1,5 +1,5 @@
 -- What a run leaves, by its status.
-use Rattle.std.specs.Prelude.{◌≡◌, ◌≢◌, ◌⊎◌, ℕ, ◌+◌, ◌<◌, List, [], ◌∷◌, ◌++◌, length, take, replicate, Option, None}
+use Rattle.std.specs.Prelude.{◌≡◌, ◌≢◌, ◌⊎◌, ℕ, ◌+◌, ◌<◌, List, [], ◌++◌, length, take, replicate, Option, None}
 use Rattle.std.specs.Option.{IfSome}
 use Rattle.std.specs.Io.KnownBytes.{Consumes, Appends}
 use Rattle.serve_io.specs.Causes.{Rose}
@@ -11,10 +11,8 @@ use Rattle.http_session.specs.Reply.{fault_bytes}
 use Rattle.http_session.specs.Session.{Exchange, exchange_bytes, asked_in, moments_in, replies_in, Run, SessionState, IsAll}
 use Rattle.api_server.specs.Ask.{WorldView, Asks, AskCut, After, AfterCut}
 use Rattle.command_words.specs.declared.settings.Options.{Options}
-use Rattle.command_words.specs.declared.command.Command.TheVariants.{Replay}
-use Rattle.command_words.specs.Grammar.{Word, IsCommand}
 use Rattle.control_cli.specs.declared.status.Status.{Status}
-use Rattle.control_cli.specs.declared.status.Status.TheVariants.{Done, Usage, ReadFault, WriteFault, Cut, GateFault, BadRequest, ManifestRefused, Memory, TooLong}
+use Rattle.control_cli.specs.declared.status.Status.TheVariants.{Done, Usage, ReadFault, WriteFault, Cut, GateFault, BadRequest, ManifestRefused, Memory, TooLong, PollRefused}
 
 -- ---- the world at the start
 
@@ -118,6 +116,7 @@ ReplayLeaves old new Memory = Answers old new [] AreFirst ⊎ (CutsAfter old new
 ReplayLeaves old new Usage = ⊥
 ReplayLeaves old new GateFault = ⊥
 ReplayLeaves old new ManifestRefused = ⊥
+ReplayLeaves old new PollRefused = ⊥
 
 -- Memory ran out before anything else, and all is as before; or the world refuses the settings, and all is as before; or it takes them, and the session
 -- runs on the world that is set up.
@@ -126,14 +125,6 @@ ReplayRuns options old new status =
     ((status ≡ Memory) × (new ≡ old))
     ⊎ ((RefusesSettings options old.handler × (status ≡ Usage) × (new ≡ old))
     ⊎ (¬ (RefusesSettings options old.handler) × ReplayLeaves (set_up options old) new status))
-
--- the same, with options that the words say
-abbrev pub ReplaysBy : List Word → SessionState WorldView → SessionState WorldView → Status → Type 0
-ReplaysBy words old new status = (options : Options) × IsCommand words (Replay options) × ReplayRuns options old new status
-
--- the words are those of `replay`, and the world takes the settings that they say
-abbrev pub TakesReplay : List Word → WorldView → Type 0
-TakesReplay words w = ((options : Options) × IsCommand words (Replay options)) × ((options : Options) → IsCommand words (Replay options) → ¬ (RefusesSettings options w))
 
 -- Where the source tells its bytes, these are a stream that ends well, they are fewer than a session takes, and neither end failed, all is
 -- done, or out of memory.

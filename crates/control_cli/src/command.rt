@@ -1,92 +1,108 @@
 //! The top call.
 ghost use Rattle.std.specs.Prelude.{◌≡◌, ◌≢◌, ◌⊎◌};
 ghost use Rattle.http_session.specs.Session.{state_of};
-ghost use Rattle.command_words.specs.Grammar.{IsCommand, IsOutside};
-ghost use Rattle.control_cli.specs.Ends.{status_of, status_of_check};
-ghost use Rattle.command_words.specs.declared.settings.Options.{Options};
+ghost use Rattle.command_words.specs.Grammar.{IsCommand, IsOutside, IsWithin};
+ghost use Rattle.command_words.specs.declared.command.Command.{Command};
 ghost use Rattle.manifest_intake.specs.Good.{is_good};
 ghost use Rattle.control_rules.specs.Facts.{IsKept};
 ghost use Rattle.step_scheduler.specs.Planes.{IsSafeThroughout, RemovesUnusedAlone};
-ghost use Rattle.control_cli.specs.Runs.{RefusesSettings, ReplayRuns, ReplaysBy, TakesReplay, IsComplete};
-ghost use Rattle.control_cli.specs.Checks.{CheckLeaves};
+ghost use Rattle.control_cli.specs.Commands.{gate_of, CommandLeaves, RefusesCommand, IsServing, Runs, IsRefused, AreServing};
 
+use crate::check::check_manifest;
+use crate::drill::{generate, run_drill};
+use crate::pick::pick_numbers;
+use crate::replay::replay;
+use crate::serve::serve_gate;
 use crate::status::Status;
 use api_server::World;
-use command_words::{Command, Options, WordsError, read_command};
-use http_session::{ClockMode, SessionEnd, session};
+use command_words::{Command, WordsError, read_command};
 use json_tree::Text;
-use manifest_check::{CheckEnd, check};
 use serve_io::{Clock, Gate, Sink, Source};
 use std::alloc::Global;
 
-/// The status that stands for the end of a session.
-fn status_of(end: SessionEnd) -> Status
-    ensures value { result ≡ status_of end }
-    ensures reads { result ≢ Status.ReadFault → end ≢ SessionEnd.ReadFault }
-    ensures writes { result ≢ Status.WriteFault → end ≢ SessionEnd.WriteFault }
+/// What a world's plane keeps is a fact of its type, which it tells with its store.
+fn plane_keeps(world: &World)
+    ensures kept { IsKept is_good world.now.plane }
+    ensures safe { IsSafeThroughout world.now.plane.journal }
+    ensures unused { RemovesUnusedAlone world.now.plane.journal }
 {
-    match end {
-        SessionEnd::Clean | SessionEnd::Closed => Status::Done,
-        SessionEnd::Cut => Status::Cut,
-        SessionEnd::Bad(_) => Status::BadRequest,
-        SessionEnd::ReadFault => Status::ReadFault,
-        SessionEnd::WriteFault => Status::WriteFault,
-        SessionEnd::TooLong => Status::TooLong,
-        SessionEnd::Memory => Status::Memory,
-    }
+    let _store = world.plane().store();
 }
 
-/// One session over the source, in which no request has a moment, on the world with the settings and the automatic steps of
-/// the words. `Usage` comes exactly where the world refuses these settings, and then nothing is read or written.
-fn replay<S: Source, K: Sink, C: Clock>(
+/// Runs a command over a world.
+fn run_command<S: Source, K: Sink, C: Clock, G: Gate>(
     alloc: Global,
-    options: Options,
+    command: Command,
     world: &mut World,
     source: &mut S,
     sink: &mut K,
     clock: &mut C,
+    gate: &mut G,
 ) -> Status
-    ensures runs { ReplayRuns options
+    requires { IsWithin command }
+    ensures leaves { CommandLeaves command
         (state_of world.old (S.left source.old) (S.faults source.old) (K.taken sink.old) (K.faults sink.old) (C.moments clock.old))
         (state_of world.new (S.left source.new) (S.faults source.new) (K.taken sink.new) (K.faults sink.new) (C.moments clock.new))
+        (gate_of (G.coming gate.old) (G.back gate.old) (G.listening_at gate.old) (G.listens gate.old) (G.faults gate.old))
+        (gate_of (G.coming gate.new) (G.back gate.new) (G.listening_at gate.new) (G.listens gate.new) (G.faults gate.new))
         result }
-    ensures complete { ¬ (RefusesSettings options world.old) → IsComplete
-        (state_of world.old (S.left source.old) (S.faults source.old) (K.taken sink.old) (K.faults sink.old) (C.moments clock.old))
-        (state_of world.new (S.left source.new) (S.faults source.new) (K.taken sink.new) (K.faults sink.new) (C.moments clock.new))
-        result }
-    ensures kept { IsKept is_good world.old.plane → IsKept is_good world.new.plane }
+    ensures usage { result ≡ Status.Usage → RefusesCommand command world.old }
     ensures calm { result ≢ Status.ReadFault → S.faults source.new ≡ S.faults source.old }
     ensures calm_sink { result ≢ Status.WriteFault → K.faults sink.new ≡ K.faults sink.old }
+    ensures gate { ¬ (IsServing command) → gate.new ≡ gate.old }
 {
-    if world.set_settings(options.settings).is_err() {
-        return Status::Usage;
-    }
-    world.set_auto(options.auto);
-    let report = session(alloc, world, source, sink, clock, ClockMode::Leave);
-    status_of(report.end)
-}
-
-/// The status that stands for the end of a check.
-fn status_of_check(end: CheckEnd) -> Status
-    ensures value { result ≡ status_of_check end }
-    ensures reads { result ≢ Status.ReadFault → end ≢ CheckEnd.ReadFault }
-    ensures writes { result ≢ Status.WriteFault → end ≢ CheckEnd.WriteFault }
-{
-    match end {
-        CheckEnd::Done => Status::Done,
-        CheckEnd::Refused => Status::ManifestRefused,
-        CheckEnd::ReadFault => Status::ReadFault,
-        CheckEnd::WriteFault => Status::WriteFault,
-        CheckEnd::Memory => Status::Memory,
+    match command {
+        Command::Replay(options) => replay(alloc, options, world, source, sink, clock),
+        Command::Serve(words) => serve_gate(alloc, words, world, sink, clock, gate),
+        Command::Check => check_manifest(alloc, source, sink),
+        Command::Generate(count) => generate(alloc, count, sink),
+        Command::Drill(count) => run_drill(alloc, count, world, sink),
+        Command::Pick(picking) => pick_numbers(alloc, picking, source, sink),
     }
 }
 
-/// Runs the command of the words over a world: `replay` is one session over the source, whose replies go to the sink, on the world
-/// with the settings and the automatic steps of the words; `check` reads one manifest from the source and writes it with its defaults, or its refusal, to the sink.
+// The run, before it is said what the world's plane keeps.
+fn run_words<S: Source, K: Sink, C: Clock, G: Gate>(
+    alloc: Global,
+    words: &[Text],
+    world: &mut World,
+    source: &mut S,
+    sink: &mut K,
+    clock: &mut C,
+    gate: &mut G,
+) -> Status
+    ensures usage { result ≡ Status.Usage → IsOutside words.now ⊎ IsRefused words.now world.old }
+    ensures outside { IsOutside words.now → (result ≡ Status.Usage) ⊎ (result ≡ Status.Memory) }
+    ensures untouched { IsOutside words.now
+        → state_of world.new (S.left source.new) (S.faults source.new) (K.taken sink.new) (K.faults sink.new) (C.moments clock.new)
+        ≡ state_of world.old (S.left source.old) (S.faults source.old) (K.taken sink.old) (K.faults sink.old) (C.moments clock.old) }
+    ensures runs { (command : Command) → IsCommand words.now command → Runs words.now
+        (state_of world.old (S.left source.old) (S.faults source.old) (K.taken sink.old) (K.faults sink.old) (C.moments clock.old))
+        (state_of world.new (S.left source.new) (S.faults source.new) (K.taken sink.new) (K.faults sink.new) (C.moments clock.new))
+        (gate_of (G.coming gate.old) (G.back gate.old) (G.listening_at gate.old) (G.listens gate.old) (G.faults gate.old))
+        (gate_of (G.coming gate.new) (G.back gate.new) (G.listening_at gate.new) (G.listens gate.new) (G.faults gate.new))
+        result }
+    ensures calm { result ≢ Status.ReadFault → S.faults source.new ≡ S.faults source.old }
+    ensures calm_sink { result ≢ Status.WriteFault → K.faults sink.new ≡ K.faults sink.old }
+    ensures gate { ¬ (AreServing words.now) → gate.new ≡ gate.old }
+{
+    match read_command(alloc, words) {
+        Ok(command) => run_command(alloc, command, world, source, sink, clock, gate),
+        Err(WordsError::Usage) => Status::Usage,
+        Err(WordsError::Memory) => Status::Memory,
+    }
+}
+
+/// Runs the command of the words over a world.
 ///
-/// A source or a sink that fails ends the run with its status and isn't tried again; a run that is out of memory ends so too. Words outside the grammar are
-/// `Usage`, and so are settings that the world refuses: nothing is read or written, and the world is as before. The clock and the gate aren't used.
-#[tactic(auto, using(crate::proofs::Words::not_both, crate::proofs::Starts::replays_at_once, crate::proofs::Starts::usage_refuses, crate::proofs::Starts::check_without_usage, crate::proofs::Starts::complete_at_once, crate::proofs::Starts::check_at_once, crate::proofs::Starts::check_leaves))]
+/// - `replay` is one session over the source, whose replies go to the sink, on the world with the settings and the automatic steps of the words.
+/// - `serve` listens at the gate and serves its connections, one after another, each by a session on that world; a line on the sink tells of each.
+/// - `check` reads one manifest from the source and writes it with its defaults, or its refusal, to the sink.
+/// - `gen` writes the stream of requests that a number makes, and `drill` runs that stream over the world in memory and writes seven lines that tell of the run.
+/// - `pick` follows the polls of Tables that the source gives, one a line, and writes which Revision each number picks.
+///
+/// A source, a sink or a gate that fails ends the run with its status and isn't tried again; a run that is out of memory ends so too. Words outside the grammar are
+/// `Usage`, and so are settings that the world refuses: nothing is read or written, and the world is as before.
 pub fn run<S: Source, K: Sink, C: Clock, G: Gate>(
     alloc: Global,
     words: &[Text],
@@ -96,35 +112,25 @@ pub fn run<S: Source, K: Sink, C: Clock, G: Gate>(
     clock: &mut C,
     gate: &mut G,
 ) -> Status
-    ensures usage { result ≡ Status.Usage → IsOutside words.now
-        ⊎ ((options : Options) × IsCommand words.now (Command.Replay options) × RefusesSettings options world.old) }
+    ensures usage { result ≡ Status.Usage → IsOutside words.now ⊎ IsRefused words.now world.old }
     ensures outside { IsOutside words.now → (result ≡ Status.Usage) ⊎ (result ≡ Status.Memory) }
     ensures untouched { IsOutside words.now
         → state_of world.new (S.left source.new) (S.faults source.new) (K.taken sink.new) (K.faults sink.new) (C.moments clock.new)
         ≡ state_of world.old (S.left source.old) (S.faults source.old) (K.taken sink.old) (K.faults sink.old) (C.moments clock.old) }
-    ensures replay { (options : Options) → IsCommand words.now (Command.Replay options) → ReplaysBy words.now
+    ensures runs { (command : Command) → IsCommand words.now command → Runs words.now
         (state_of world.old (S.left source.old) (S.faults source.old) (K.taken sink.old) (K.faults sink.old) (C.moments clock.old))
         (state_of world.new (S.left source.new) (S.faults source.new) (K.taken sink.new) (K.faults sink.new) (C.moments clock.new))
+        (gate_of (G.coming gate.old) (G.back gate.old) (G.listening_at gate.old) (G.listens gate.old) (G.faults gate.old))
+        (gate_of (G.coming gate.new) (G.back gate.new) (G.listening_at gate.new) (G.listens gate.new) (G.faults gate.new))
         result }
-    ensures complete { TakesReplay words.now world.old → IsComplete
-        (state_of world.old (S.left source.old) (S.faults source.old) (K.taken sink.old) (K.faults sink.old) (C.moments clock.old))
-        (state_of world.new (S.left source.new) (S.faults source.new) (K.taken sink.new) (K.faults sink.new) (C.moments clock.new))
-        result }
-    ensures check { IsCommand words.now Command.Check → CheckLeaves
-        (state_of world.old (S.left source.old) (S.faults source.old) (K.taken sink.old) (K.faults sink.old) (C.moments clock.old))
-        (state_of world.new (S.left source.new) (S.faults source.new) (K.taken sink.new) (K.faults sink.new) (C.moments clock.new))
-        result }
-    ensures kept { IsKept is_good world.old.plane → IsKept is_good world.new.plane }
-    ensures safe { IsKept is_good world.old.plane → IsSafeThroughout world.new.plane.journal }
-    ensures unused { IsKept is_good world.old.plane → RemovesUnusedAlone world.new.plane.journal }
+    ensures kept { IsKept is_good world.new.plane }
+    ensures safe { IsSafeThroughout world.new.plane.journal }
+    ensures unused { RemovesUnusedAlone world.new.plane.journal }
     ensures calm { result ≢ Status.ReadFault → S.faults source.new ≡ S.faults source.old }
     ensures calm_sink { result ≢ Status.WriteFault → K.faults sink.new ≡ K.faults sink.old }
-    ensures gate { gate.new ≡ gate.old }
+    ensures gate { ¬ (AreServing words.now) → gate.new ≡ gate.old }
 {
-    match read_command(alloc, words) {
-        Ok(Command::Replay(options)) => replay(alloc, options, world, source, sink, clock),
-        Ok(Command::Check) => status_of_check(check(alloc, source, sink)),
-        Err(WordsError::Usage) => Status::Usage,
-        Err(WordsError::Memory) => Status::Memory,
-    }
+    let status = run_words(alloc, words, world, source, sink, clock, gate);
+    plane_keeps(world);
+    status
 }

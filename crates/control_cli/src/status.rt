@@ -25,6 +25,8 @@ pub enum Status {
     Memory,
     /// The input is longer than a session takes.
     TooLong,
+    /// A poll isn't followed.
+    PollRefused,
 }
 
 impl Status {
@@ -43,6 +45,7 @@ impl Status {
             Status::ManifestRefused => 8,
             Status::Memory => 9,
             Status::TooLong => 10,
+            Status::PollRefused => 11,
         }
     }
 
@@ -61,6 +64,7 @@ impl Status {
             Status::ManifestRefused => "ManifestRefused",
             Status::Memory => "Memory",
             Status::TooLong => "TooLong",
+            Status::PollRefused => "PollRefused",
         }
     }
 }

@@ -5,11 +5,12 @@
 use api_server::World;
 use control_cli::{Status, run};
 use json_tree::Text;
-use serve_io::{MemClock, ReadSource, SureGate, WriteSink};
+use serve_io::{ReadSource, WriteSink};
 use std::alloc::AllocError;
 use std::process::ExitCode;
 use std::{env, io};
 use step_scheduler::standard_settings;
+use tcp_ends::{SystemClock, TcpGate};
 
 // The words behind the program's name. One that isn't UTF-8 is an error of kind `InvalidData`.
 fn words_of(rt: &HostRuntime) -> io::Result<Vec<Text>> {
@@ -27,8 +28,8 @@ fn run_over_new_world(rt: &HostRuntime, words: &[Text]) -> Result<Status, AllocE
     let mut world = World::new(alloc, standard_settings(alloc)?);
     let mut source = ReadSource::new(rt.reader());
     let mut sink = WriteSink::new(io::writer(rt));
-    let mut clock = MemClock::new(Vec::new(alloc));
-    let mut gate = SureGate::new(alloc, Vec::new(alloc))?;
+    let mut clock = SystemClock::new(rt);
+    let mut gate = TcpGate::new(rt);
     Ok(run(
         alloc,
         words,

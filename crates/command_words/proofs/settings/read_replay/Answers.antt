@@ -1,10 +1,10 @@
-use Rattle.std.proofs.Common.{rules, ◌≡◌, IsErrAnd, drop, subst, sym}
+use Rattle.std.proofs.Common.{rules, ◌≡◌, IsErrAnd, drop, codes, refl, subst, sym}
 use Rattle.std.proofs.lemmas.Result.{IfOk-weaker}
 use Rattle.clap.specs.Words.{first_value, found_of}
 use Rattle.command_words.specs.Options.{Gives, GivesNone, GivesValues, texts_of}
-use Rattle.command_words.specs.Settings.{names}
+use Rattle.command_words.specs.Settings.{names, options_of}
 use Rattle.command_words.specs.declared.command.WordsError.TheVariants.{Usage}
-use Rattle.command_words.proofs.PlaneOptions.{replay_read, replay_refused}
+use Rattle.command_words.proofs.Given.{given_read, given_refused}
 use Rattle.command_words.proofs.settings.read_replay.Goals as goal
 
 pub returns-in_err-matches-clause-usage : goal.returns-in_err-matches-clause-usage
@@ -21,6 +21,6 @@ returns c =
     let names_are : texts_of c.as_slice.result.now ≡ names = search rules in
     let read = subst (λ ns. GivesValues ns words value) names_are c.in_ok-matches.ensures.values in
     record {
-      replay = IfOk-weaker c.options_in.result _ _ (replay_read words value read) c.options_in.ensures.options;
-      usage = λ is. replay_refused words value read (c.options_in.ensures.usage is);
+      replay = IfOk-weaker c.options_in.result _ _ (given_read names refl (options_of (codes "0")) words value read) c.options_in.ensures.options;
+      usage = λ is. given_refused names refl (options_of (codes "0")) words value read (c.options_in.ensures.usage is);
     }

@@ -1,0 +1,4 @@
+//! The cases, in two tables.
+mod bytes;
+mod replays;
+mod serves;
