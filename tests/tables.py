@@ -15,6 +15,8 @@ import subprocess
 import sys
 
 from control_cases import CONTROL_TABLES
+from gateway_cases import gateway_polls
+from quiet_streams import is_quiet, quiet_streams
 
 ROOT = "/apis/serving.knative.dev/v1/namespaces"
 BLUE = ROOT + "/blue"
@@ -528,7 +530,20 @@ def words():
                  ["replay", "--retain-since-last-active-time", "1d"], ["replay", "--retain-since-last-active-time", "Disabled"],
                  ["replay", "--min-non-active-revisions", "disabled"], ["replay", "--min-non-active-revisions", "1001"],
                  ["replay", "--max-non-active-revisions", "19"], ["replay", "--max-non-active-revisions", "5h"],
-                 ["replay", "--min-non-active-revisions=3", "--max-non-active-revisions=2"]):
+                 ["replay", "--min-non-active-revisions=3", "--max-non-active-revisions=2"],
+                 # A server: an address of 1 to 255 bytes, which has to be given, and 1 to 4,294,967,295 sessions.
+                 ["serve"], ["serve", "--listen"], ["serve", "--listen="], ["serve", "--listen", ""], ["serve", "--listen", "a" * 256], ["serve", "127.0.0.1:0"],
+                 ["serve", "--sessions", "1"], ["serve", "--listen", "a", "--listen", "b"], ["serve", "--listen", "a", "--sessions", "0"],
+                 ["serve", "--listen", "a", "--sessions", "4294967296"], ["serve", "--listen", "a", "--auto", "10001"],
+                 # A number from 1 to 500, alone.
+                 ["gen"], ["gen", "0"], ["gen", "501"], ["gen", "1", "1"], ["gen", "-1"], ["gen", "1x"], ["gen", "--", "1"], ["gen", "--auto", "1"], ["gen", ""],
+                 ["drill"], ["drill", "0"], ["drill", "501"], ["drill", "1", "--auto=1"], ["drill", "00000000001"],
+                 # All three options of a pick are given: a host of 1 to 255 bytes, a first number, and 1 to 100,000 numbers.
+                 ["pick"], ["pick", "--host", "h"], ["pick", "--host", "h", "--first", "0"], ["pick", "--first", "0", "--count", "1"],
+                 ["pick", "--host=", "--first=0", "--count=1"], ["pick", "--host=" + "h" * 256, "--first=0", "--count=1"],
+                 ["pick", "--host=h", "--first=4294967296", "--count=1"], ["pick", "--host=h", "--first=0", "--count=0"],
+                 ["pick", "--host=h", "--first=0", "--count=100001"], ["pick", "--host=h", "--first=0", "--count=1", "--auto=1"],
+                 ["export", "x"], ["import", "x"]):
         yield line, "GET / HTTP/1.1\r\n\r\n", 2, b""
     for line in (["--auto", "0"], ["--auto=10000"], ["--auto", "0000010000"], ["--domain", "a"], ["--domain=a" + ".a" * 49], ["--domain", "a" * 63],
                  ["--retain-since-create-time", "0h"], ["--retain-since-create-time=disabled"], ["--retain-since-last-active-time", "1h30s"],
@@ -541,14 +556,21 @@ def words():
 
 def ends(program):
     """Real ends that fail: a folder can't be read, and nothing fits on a full device. Each run, with the status that it had and is due."""
-    for word in ("replay", "check"):
+    for word, *more in (["replay"], ["check"], ["pick", "--host=h", "--first=0", "--count=1"]):
         folder = os.open("/", os.O_RDONLY)
-        run = subprocess.run([program, word], stdin=folder, capture_output=True, check=False, timeout=60)
+        run = subprocess.run([program, word, *more], stdin=folder, capture_output=True, check=False, timeout=60)
         os.close(folder)
         yield f"{word} of a folder", run.returncode, 3
         with open("/dev/full", "wb") as full:
-            run = subprocess.run([program, word], input=b"GET / HTTP/1.1\r\n\r\n", stdout=full, stderr=subprocess.PIPE, check=False, timeout=60)
+            given = b"" if more else b"GET / HTTP/1.1\r\n\r\n"
+            run = subprocess.run([program, word, *more], input=given, stdout=full, stderr=subprocess.PIPE, check=False, timeout=60)
             yield f"{word} to a full device", run.returncode, 4
+    for word in ("gen", "drill"):
+        with open("/dev/full", "wb") as full:
+            run = subprocess.run([program, word, "1"], stdout=full, stderr=subprocess.PIPE, check=False, timeout=60)
+            yield f"{word} to a full device", run.returncode, 4
+    run = subprocess.run([program, "serve", "--listen", "no address"], capture_output=True, check=False, timeout=60)
+    yield "serve at no address", run.returncode, 6
 
 
 # ---- running
@@ -638,8 +660,20 @@ def end_faults(program, table):
     return len(found), [f"{name}: {status}, not {due}" for name, status, due in found if status != due]
 
 
+def stream_faults(program, table):
+    """The same of streams behind which the plane is to be quiet."""
+    count, wrong = 0, []
+    for line, given in table():
+        count += 1
+        run = subprocess.run([program, *line], input=given, capture_output=True, check=False, timeout=60)
+        if run.returncode != 0 or not is_quiet(run.stdout):
+            wrong.append(f"stream {count}: {run.returncode} {run.stdout[-400:]!r}")
+    return count, wrong
+
+
 TABLES = ((request_faults, (shapes, rule_cases, paths, queries, calls, merges, defaults, values, *CONTROL_TABLES)),
-          (run_faults, (bad_heads, streams, checks, words)), (end_faults, (ends,)))
+          (run_faults, (bad_heads, streams, checks, words, gateway_polls)), (end_faults, (ends,)),
+          (stream_faults, (quiet_streams,)))
 
 
 def main(program):
