@@ -3,7 +3,7 @@ use Rattle.std.proofs.Common.{◌≡◌, ℕ, zero, suc, ◌+◌, ◌*◌, ◌%�
 use Rattle.std.specs.Prelude.{if◌then◌else◌}
 use Rattle.std.proofs.lemmas.Fmt.{length-decimal-le}
 use Rattle.std.proofs.lemmas.Grind.{flat_map-append}
-use Rattle.request_drill.specs.Generated.{Generated, request_bytes, bytes_of, post, get, delete, services, service_name, service_path, service_body, report_body, creation, report, removal, number_at, each_place, settle, clock, end, requests_of, generated}
+use Rattle.request_drill.specs.Generated.{Generated, request_bytes, bytes_of, post, get, delete, services, service_name, service_path, service_body, report_body, creation, report, removal, number_at, each_place, settle, clock, week, views, requests_of, generated}
 
 size : List Generated → ℕ
 size requests = length (bytes_of requests)
@@ -112,17 +112,14 @@ settle_size = posted_size (codes "/control/settle") [] (omega arith) (omega arit
 clock_size : size (clock ∷ []) ≤ 1000
 clock_size = posted_size (codes "/control/clock") (codes "{\"now\":604800}") (omega arith) (omega arith)
 
-end_size : size end ≤ 4000
-end_size =
-    let tables : List Generated = get (codes "/control/tables") ∷ [] in
-    let summary : List Generated = get (codes "/control/summary") ∷ [] in
+week_size : size week ≤ 2000
+week_size = omega (arith, more_size (clock ∷ []) (settle ∷ []), clock_size, settle_size)
+
+views_size : size views ≤ 2000
+views_size =
     omega (
       arith,
-      more_size (clock ∷ []) (settle ∷ tables ++ summary),
-      more_size (settle ∷ []) (tables ++ summary),
-      more_size tables summary,
-      clock_size,
-      settle_size,
+      more_size (get (codes "/control/tables") ∷ []) (get (codes "/control/summary") ∷ []),
       got_size (codes "/control/tables") (omega arith),
       got_size (codes "/control/summary") (omega arith),
     )
@@ -136,7 +133,8 @@ generated_short count le =
     let s : List Generated = settle ∷ [] in
     omega (
       arith,
-      more_size (a ++ s ++ b ++ s ++ c) end,
+      more_size (a ++ s ++ b ++ s ++ c ++ week) views,
+      more_size (a ++ s ++ b ++ s ++ c) week,
       more_size (a ++ s ++ b ++ s) c,
       more_size (a ++ s ++ b) s,
       more_size (a ++ s) b,
@@ -145,6 +143,7 @@ generated_short count le =
       each_size report reported_size count count le,
       each_size removal removal_size count count le,
       settle_size,
-      end_size,
+      week_size,
+      views_size,
       le,
     )

@@ -96,15 +96,19 @@ settle = post (codes "/control/settle") []
 abbrev pub clock : Generated
 clock = post (codes "/control/clock") (codes "{\"now\":604800}")
 
--- what stands is asked for, a week and a settle later
-abbrev pub end : List Generated
-end = clock ∷ settle ∷ get (codes "/control/tables") ∷ get (codes "/control/summary") ∷ []
+-- a week goes by, and a settle
+abbrev pub week : List Generated
+week = clock ∷ settle ∷ []
+
+-- what stands is asked for
+abbrev pub views : List Generated
+views = get (codes "/control/tables") ∷ get (codes "/control/summary") ∷ []
 
 unfoldable pub requests_of : ℕ → List Generated
 requests_of count =
     each_place creation count count ++ settle ∷ []
     ++ each_place report count count ++ settle ∷ []
-    ++ each_place removal count count ++ end
+    ++ each_place removal count count ++ week ++ views
 
 -- requests, one behind another
 abbrev pub bytes_of : List Generated → List ℕ

@@ -11,6 +11,8 @@ mod lines;
 mod numbers;
 mod stream;
 mod tally;
+#[cfg(test)]
+mod tests;
 mod texts;
 
 pub use command::{DrillEnd, drill, write_stream};

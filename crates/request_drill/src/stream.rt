@@ -148,12 +148,19 @@ impl Stream {
         self.add_post(b"/control/settle", b"")
     }
 
-    /// Adds the requests behind those of the places: the clock, the last settle, and what stands then.
-    fn add_end(&mut self) -> Result<(), AllocError>
-        ensures { OnOk result (Adds self.old self.new spec.end) }
+    /// A week goes by, and the controllers work until nothing is due.
+    fn add_week(&mut self) -> Result<(), AllocError>
+        ensures { OnOk result (Adds self.old self.new spec.week) }
     {
         self.add_post(b"/control/clock", b"{\"now\":604800}")?;
         self.add_settle()?;
+        Ok(())
+    }
+
+    /// Asks for what stands.
+    fn add_views(&mut self) -> Result<(), AllocError>
+        ensures { OnOk result (Adds self.old self.new spec.views) }
+    {
         self.add_get(b"/control/tables")?;
         self.add_get(b"/control/summary")?;
         Ok(())
@@ -172,7 +179,8 @@ pub(crate) fn stream_of(alloc: Global, count: u64) -> Result<Stream, AllocError>
     stream.add_each(alloc, Part::Reports, count)?;
     stream.add_settle()?;
     stream.add_each(alloc, Part::Removals, count)?;
-    stream.add_end()?;
+    stream.add_week()?;
+    stream.add_views()?;
     Ok(stream)
 }
 
