@@ -1,0 +1,15 @@
+pub mod Paths
+pub mod Own
+pub mod Among
+pub mod Services
+pub mod Freedom
+pub mod Revisions
+pub mod Narrow
+pub mod Under
+pub mod Configurations
+pub mod Collectors
+pub mod Meanings
+pub mod Spares
+pub mod Routes
+pub mod Moments
+pub mod Touching
