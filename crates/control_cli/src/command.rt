@@ -61,38 +61,6 @@ fn run_command<S: Source, K: Sink, C: Clock, G: Gate>(
     }
 }
 
-// The run, before it is said what the world's plane keeps.
-fn run_words<S: Source, K: Sink, C: Clock, G: Gate>(
-    alloc: Global,
-    words: &[Text],
-    world: &mut World,
-    source: &mut S,
-    sink: &mut K,
-    clock: &mut C,
-    gate: &mut G,
-) -> Status
-    ensures usage { result ≡ Status.Usage → IsOutside words.now ⊎ IsRefused words.now world.old }
-    ensures outside { IsOutside words.now → (result ≡ Status.Usage) ⊎ (result ≡ Status.Memory) }
-    ensures untouched { IsOutside words.now
-        → state_of world.new (S.left source.new) (S.faults source.new) (K.taken sink.new) (K.faults sink.new) (C.moments clock.new)
-        ≡ state_of world.old (S.left source.old) (S.faults source.old) (K.taken sink.old) (K.faults sink.old) (C.moments clock.old) }
-    ensures runs { (command : Command) → IsCommand words.now command → Runs words.now
-        (state_of world.old (S.left source.old) (S.faults source.old) (K.taken sink.old) (K.faults sink.old) (C.moments clock.old))
-        (state_of world.new (S.left source.new) (S.faults source.new) (K.taken sink.new) (K.faults sink.new) (C.moments clock.new))
-        (gate_of (G.coming gate.old) (G.back gate.old) (G.listening_at gate.old) (G.listens gate.old) (G.faults gate.old))
-        (gate_of (G.coming gate.new) (G.back gate.new) (G.listening_at gate.new) (G.listens gate.new) (G.faults gate.new))
-        result }
-    ensures calm { result ≢ Status.ReadFault → S.faults source.new ≡ S.faults source.old }
-    ensures calm_sink { result ≢ Status.WriteFault → K.faults sink.new ≡ K.faults sink.old }
-    ensures gate { ¬ (AreServing words.now) → gate.new ≡ gate.old }
-{
-    match read_command(alloc, words) {
-        Ok(command) => run_command(alloc, command, world, source, sink, clock, gate),
-        Err(WordsError::Usage) => Status::Usage,
-        Err(WordsError::Memory) => Status::Memory,
-    }
-}
-
 /// Runs the command of the words over a world.
 ///
 /// - `replay` is one session over the source, whose replies go to the sink, on the world with the settings and the automatic steps of the words.
@@ -130,7 +98,19 @@ pub fn run<S: Source, K: Sink, C: Clock, G: Gate>(
     ensures calm_sink { result ≢ Status.WriteFault → K.faults sink.new ≡ K.faults sink.old }
     ensures gate { ¬ (AreServing words.now) → gate.new ≡ gate.old }
 {
-    let status = run_words(alloc, words, world, source, sink, clock, gate);
-    plane_keeps(world);
-    status
+    match read_command(alloc, words) {
+        Ok(command) => {
+            let status = run_command(alloc, command, world, source, sink, clock, gate);
+            plane_keeps(world);
+            status
+        }
+        Err(WordsError::Usage) => {
+            plane_keeps(world);
+            Status::Usage
+        }
+        Err(WordsError::Memory) => {
+            plane_keeps(world);
+            Status::Memory
+        }
+    }
 }
