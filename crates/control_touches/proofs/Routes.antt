@@ -1,6 +1,7 @@
 -- Nothing becomes due to a Route that no entry touches.
-use Rattle.std.proofs.Common.{◌≡◌, ℕ, Bool, true, false, ◌||◌, not, List, [], ◌∷◌, Option, Some, None, refl, sym, ap, ◌∙◌, subst}
-use Rattle.std.specs.Prelude.{bytes_eq}
+use Rattle.std.proofs.Common.{◌≡◌, ℕ, Bool, true, false, ◌||◌, not, List, [], ◌∷◌, Option, Some, None, refl, sym, ap, ◌∙◌, subst, ◌&&◌, arith}
+use Rattle.std.proofs.lemmas.Bool.Decides.{nat_tests}
+use Rattle.std.specs.Prelude.{◌==◌, bytes_eq}
 use Rattle.std.specs.List.{list_any}
 use Rattle.resource_types.specs.declared.names.Kind.TheVariants as kind
 use Rattle.resource_types.specs.declared.names.Controller.TheVariants as controller
@@ -10,27 +11,28 @@ use Rattle.resource_types.specs.declared.specification.Target.{Target}
 use Rattle.resource_types.specs.declared.objects.Object.{Object}
 use Rattle.resource_types.specs.Objects.{pins_of, targets_of}
 use Rattle.resource_types.specs.Lookups.{State, find}
-use Rattle.resource_types.proofs.Exact.{kind-own}
+use Rattle.resource_types.proofs.Exact.{left, right, kind-own}
 use Rattle.control_rules.specs.declared.traffic.Found.{Found}
 use Rattle.control_rules.specs.declared.traffic.Resolved.{Resolved}
-use Rattle.control_rules.specs.Standing.{beside, key_at, read, standing, is_orphan}
+use Rattle.control_rules.specs.Standing.{listed, of_its_kind, beside, key_at, read, standing, is_orphan}
 use Rattle.control_rules.specs.Resolution.{stored, Meant, first_hindrance, meant_of, meant_unless, pairs_of, resolved, resolution, assigned, host_of}
 use Rattle.control_rules.specs.TrafficStatuses.{route_status}
 use Rattle.control_rules.specs.Readings.{own_targets}
 use Rattle.control_rules.specs.Differences.{ObjectPlan, first_plan, when, given, removal, status_change}
 use Rattle.control_rules.specs.NextRoute.{add_pin, drop_pin, first_unpinned, repinned, first_spare, assigned_of, assigned_at, is_own_table, table_of, published, route_orphaned, table_foreign, pin_lacking, table_differs, route_status_differs, pin_spare, route_next}
 use Rattle.control_rules.specs.Slots.{ObjectEntry, slot_key}
-use Rattle.control_entries.proofs.Tests.{both, bytes_self, some_same, none_some}
+use Rattle.control_entries.proofs.Tests.{not_both, not_true, false_from, both, bytes_self, some_same, none_some}
 use Rattle.control_entries.proofs.Each.{Each, each_by}
 use Rattle.control_entries.proofs.Standing.{stands}
-use Rattle.control_touches.specs.Touches.{is_one, is_one_of, is_on, meant_name, is_meaning, is_pinned, targets_in, targets_at, touches, touches_route, is_touched_by}
+use Rattle.control_touches.specs.Touches.{is_changed, is_alike, is_same_sight, sight_of, is_one, is_one_of, is_on, meant_name, is_meaning, is_pinned, targets_in, targets_at, touches, touches_route, is_touched_by}
 use Rattle.control_touches.specs.Named.{AreNamed}
 use Rattle.control_touches.proofs.Paths.{after, ArePuts}
-use Rattle.control_touches.proofs.Own.{or_left, or_right, one_is, find_kept, stands_kept}
+use Rattle.control_touches.proofs.Own.{get_kept, or_left, or_right, one_is, find_kept, stands_kept}
+use Rattle.control_touches.proofs.Freedom.{unchanged, first_false, second_false}
 use Rattle.control_touches.proofs.Revisions.{first_none, none_first}
 use Rattle.control_touches.proofs.Configurations.{orphan_kept}
-use Rattle.control_touches.proofs.Meanings.{ReadsAlike, each_any, pairs_alike, unpinned_alike, meant_alike}
-use Rattle.control_touches.proofs.Spares.{spare_kept}
+use Rattle.control_touches.proofs.Meanings.{IsReadAlike, ReadsAlike, each_any, pairs_alike, unpinned_alike, meant_alike}
+use Rattle.control_touches.proofs.Spares.{pin_kept, spare_kept}
 
 -- ---- parts
 
@@ -71,11 +73,32 @@ none_six a b c d e f h =
 six_none : (a b c d e f : Option ObjectPlan) → a ≡ None → b ≡ None → c ≡ None → d ≡ None → e ≡ None → f ≡ None → first_plan a (first_plan b (first_plan c (first_plan d (first_plan e f)))) ≡ None
 six_none a b c d e f p q r s t u = none_first a _ p (none_first b _ q (none_first c _ r (none_first d _ s (none_first e f t u))))
 
+-- ---- what is read of a Revision
+
+sight_same : (a b : Option (ℕ × (Bool × Bool))) → is_same_sight a b ≡ true → a ≡ b
+sight_same None None e = refl
+sight_same None (Some b) e = absurd cc
+sight_same (Some a) None e = absurd cc
+sight_same (Some a) (Some b) e =
+    let uid = number a.0 b.0 (left (a.0 == b.0) _ e) in
+    let off = not_true (right (a.0 == b.0) _ e) in
+    λ i. Some (uid i, (sym (unchanged a.1.0 b.1.0 (first_false _ _ off)) i, sym (unchanged a.1.1 b.1.1 (second_false _ _ off)) i))
+  where
+    number : (x y : ℕ) → (x == y) ≡ true → x ≡ y
+    number x y e = grind (arith, nat_tests)
+
+alike_from : (a b : Bool) → b ≡ true → (not a && b) ≡ false → a ≡ true
+alike_from true b e h = refl
+alike_from false b e h = absurd (not_both e h)
+
 -- ---- keys that a Route reads
 
 of_space : (k : Key) (r : Name) (test : List ℕ → Bool) → k.name.space ≡ r.space → test k.name.name ≡ true → is_one_of k.kind r.space test k ≡ true
 unfolding is_one_of
 of_space k r test e h = both (kind-own k.kind) (both (subst (λ s. bytes_eq k.name.space s ≡ true) e (bytes_self k.name.space)) h)
+
+space_off : (k : Key) (r : Name) (test : List ℕ → Bool) → k.name.space ≡ r.space → is_one_of k.kind r.space test k ≡ false → test k.name.name ≡ false
+space_off k r test e h = false_from (λ t. not_both (of_space k r test e t) h)
 
 module _ (st : State) (es : List ObjectEntry) (puts : ArePuts es) (r : Name) (named : AreNamed st) (now_named : AreNamed (after st es)) (calm : is_touched_by (after st es) st es (slot_key controller.Route r) ≡ false) where
   route : standing kind.Route r (after st es) ≡ standing kind.Route r st
@@ -97,14 +120,18 @@ module _ (st : State) (es : List ObjectEntry) (puts : ArePuts es) (r : Name) (na
       (λ old new. or_right (is_one (kind.Route ∷ kind.Table ∷ kind.Service ∷ []) r (key_at kind.Configuration (beside r name))) _
       (or_left _ _ (of_space (key_at kind.Configuration (beside r name)) r (λ name. list_any (is_on name) (targets_at (after st es) r)) refl h)))
 
-  revision : (name : List ℕ) → list_any (is_meaning (after st es) r name) (targets_at (after st es) r) ≡ true → standing kind.Revision (beside r name) (after st es) ≡ standing kind.Revision (beside r name) st
-  unfolding touches touches_route
-  revision name h =
-      stands_kept (after st es) st es puts _ calm kind.Revision (beside r name)
-      (λ old new. or_right (is_one (kind.Route ∷ kind.Table ∷ kind.Service ∷ []) r (key_at kind.Revision (beside r name))) _
-      (or_right (is_one_of kind.Configuration r.space (λ name. list_any (is_on name) (targets_at (after st es) r)) (key_at kind.Revision (beside r name))) _
-      (of_space (key_at kind.Revision (beside r name)) r (λ name. is_pinned r new || list_any (is_meaning (after st es) r name) (targets_at (after st es) r)) refl
-      (or_right (is_pinned r new) _ h))))
+  sight : (name : List ℕ) → list_any (is_meaning (after st es) r name) (targets_at (after st es) r) ≡ true
+      → sight_of (standing kind.Revision (beside r name) (after st es)) ≡ sight_of (standing kind.Revision (beside r name) st)
+  unfolding touches touches_route standing is_alike
+  sight name h =
+      get_kept (after st es) st es puts _ calm (λ o. sight_of (of_its_kind kind.Revision o)) (key_at kind.Revision (beside r name))
+      (λ old new t. sym (sight_same (sight_of (of_its_kind kind.Revision old)) (sight_of (of_its_kind kind.Revision new))
+      (alike_from _ _ h (second_false _ _ (space_off (key_at kind.Revision (beside r name)) r (λ name. is_changed (is_pinned r old) (is_pinned r new) || (not (is_alike old new) && list_any (is_meaning (after st es) r name) (targets_at (after st es) r))) refl
+      (second_false _ _ (second_false _ _ t)))))))
+
+  pinned : (name : List ℕ) → listed r.name (read [] pins_of (standing kind.Revision (beside r name) (after st es))) ≡ listed r.name (read [] pins_of (standing kind.Revision (beside r name) st))
+  unfolding standing is_pinned
+  pinned name = pin_kept (after st es) st es puts r calm (key_at kind.Revision (beside r name)) refl refl
 
   -- its targets read the same
   alike : (o : Object) → standing kind.Route r st ≡ Some o → Each (ReadsAlike (after st es) st r) (targets_of o.body)
@@ -114,7 +141,7 @@ module _ (st : State) (es : List ObjectEntry) (puts : ArePuts es) (r : Name) (na
       (each_by _ _ (targets_at (after st es) r)
       (λ t h. record {
         configuration = λ empty. configuration t.configuration (h (is_on t.configuration) (both empty (bytes_self t.configuration)));
-        revision = revision (meant_name (after st es) r t) (h (is_meaning (after st es) r (meant_name (after st es) r t)) (bytes_self (meant_name (after st es) r t)));
+        revision = record { sight = sight (meant_name (after st es) r t) (h (is_meaning (after st es) r (meant_name (after st es) r t)) (bytes_self (meant_name (after st es) r t))); pinned = pinned (meant_name (after st es) r t) };
       })
       (each_any (targets_at (after st es) r)))
 
@@ -140,22 +167,31 @@ module _ (st : State) (es : List ObjectEntry) (puts : ArePuts es) (r : Name) (na
           ∙ ap (λ ps. meant_unless (first_hindrance 0 ps) (meant_of ps)) (pairs_alike (after st es) st r (targets_of o.body) (alike o e))
           ∙ ap (assigned_of stored st r) (sym e)
 
-  unpinned_kept : (ms : List Meant) → assigned_at stored (after st es) r ≡ Some ms → first_unpinned (after st es) r ms ≡ first_unpinned st r ms
+  unpinned_kept : (ms : List Meant) → assigned_at stored (after st es) r ≡ Some ms → first_unpinned st r ms ≡ None → first_unpinned (after st es) r ms ≡ None
   unfolding assigned_at assigned
   unpinned_kept ms h = go (standing kind.Route r st) refl
     where
-      go : (o : Option Object) → standing kind.Route r st ≡ o → first_unpinned (after st es) r ms ≡ first_unpinned st r ms
+      go : (o : Option Object) → standing kind.Route r st ≡ o → first_unpinned st r ms ≡ None → first_unpinned (after st es) r ms ≡ None
       go None e = absurd (none_some (ap (assigned_of stored (after st es) r) (route ∙ e)) h)
       go (Some o) e =
           unpinned_alike (after st es) st r ms
-          (subst (λ z. Each (λ (m : Meant). standing kind.Revision (beside r m.name) (after st es) ≡ standing kind.Revision (beside r m.name) st) z)
+          (subst (λ z. Each (λ (m : Meant). IsReadAlike (after st es) st r m.name) z)
           (meant_some _ _ ms (sym (ap (assigned_of stored (after st es) r) (route ∙ e)) ∙ h))
           (meant_alike (after st es) st r (targets_of o.body) (alike o e)))
 
-  lacking_kept : (now : ℕ) → pin_lacking (after st es) r now ≡ pin_lacking st r now
-  lacking_kept now =
-      given_alike (assigned_at stored (after st es) r) _ (pins st r now) (λ ms e. ap (λ v. given v (pin r now)) (unpinned_kept ms e))
-      ∙ ap (λ a. given a (pins st r now)) assigned_kept
+  lacking_none : (now : ℕ) → pin_lacking st r now ≡ None → pin_lacking (after st es) r now ≡ None
+  unfolding given
+  lacking_none now h = go (assigned_at stored (after st es) r) refl
+    where
+      none : (o : Option Object) → given o (pin r now) ≡ None → o ≡ None
+      none None e = refl
+      none (Some v) e = absurd cc
+
+      go : (a : Option (List Meant)) → assigned_at stored (after st es) r ≡ a → pin_lacking (after st es) r now ≡ None
+      go None e = ap (λ a. given a (pins (after st es) r now)) e
+      go (Some ms) e =
+          ap (λ a. given a (pins (after st es) r now)) e
+          ∙ ap (λ v. given v (pin r now)) (unpinned_kept ms e (none (first_unpinned st r ms) (sym (ap (λ a. given a (pins st r now)) (sym assigned_kept ∙ e)) ∙ h)))
 
   differs_kept : (domain : List ℕ) → table_differs domain (after st es) r ≡ table_differs domain st r
   differs_kept domain = λ i. given (route i) (λ o. given (assigned_kept i) (λ ms. published r (table i) (table_of r domain o ms)))
@@ -181,4 +217,4 @@ module _ (st : State) (es : List ObjectEntry) (puts : ArePuts es) (r : Name) (na
   route_kept domain now h =
       let parts = none_six (route_orphaned st r) (table_foreign st r) (pin_lacking st r now) (table_differs domain st r) (route_status_differs domain st r now) (pin_spare st r now) h in
       six_none (route_orphaned (after st es) r) (table_foreign (after st es) r) (pin_lacking (after st es) r now) (table_differs domain (after st es) r) (route_status_differs domain (after st es) r now) (pin_spare (after st es) r now)
-      (orphaned_kept ∙ parts.0) (foreign_kept ∙ parts.1.0) (lacking_kept now ∙ parts.1.1.0) (differs_kept domain ∙ parts.1.1.1.0) (told_kept domain now ∙ parts.1.1.1.1.0) (spare_none now parts.1.1.1.1.1)
+      (orphaned_kept ∙ parts.0) (foreign_kept ∙ parts.1.0) (lacking_none now parts.1.1.0) (differs_kept domain ∙ parts.1.1.1.0) (told_kept domain now ∙ parts.1.1.1.1.0) (spare_none now parts.1.1.1.1.1)

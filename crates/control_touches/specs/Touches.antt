@@ -1,5 +1,5 @@
 -- Which keys an entry touches: those to which it may make something due.
-use Rattle.std.specs.Prelude.{ℕ, ◌==◌, ◌&&◌, ◌||◌, not, nat_eq, Bool, false, List, [], ◌∷◌, ◌++◌, length, drop, codes, Option, cond, bytes_eq}
+use Rattle.std.specs.Prelude.{ℕ, ◌==◌, ◌&&◌, ◌||◌, not, nat_eq, Bool, true, false, List, [], ◌∷◌, ◌++◌, length, drop, codes, Option, cond, bytes_eq, Some, None}
 use Rattle.std.specs.List.{list_any, starts_with}
 use Rattle.version_store.specs.State as store
 use Rattle.resource_types.specs.declared.names.Kind.{Kind}
@@ -9,10 +9,12 @@ use Rattle.resource_types.specs.declared.names.Name.{Name}
 use Rattle.resource_types.specs.declared.names.Controller.{Controller}
 use Rattle.resource_types.specs.declared.names.Controller.TheVariants as controller
 use Rattle.resource_types.specs.declared.names.SlotKey.{SlotKey}
+use Rattle.resource_types.specs.declared.conditions.CondName.TheVariants as condition
+use Rattle.resource_types.specs.declared.conditions.Truth.TheVariants as truth
 use Rattle.resource_types.specs.declared.specification.Target.{Target}
 use Rattle.resource_types.specs.declared.objects.Object.{Object}
 use Rattle.resource_types.specs.contracts.names.KeyOrd.TheImpl as key_order
-use Rattle.resource_types.specs.Objects.{same_kind, is_of, pins_of, targets_of}
+use Rattle.resource_types.specs.Objects.{same_kind, is_of, pins_of, targets_of, has_been_ready, has_condition}
 use Rattle.resource_types.specs.Lookups.{Journal, State, state, find, is_empty, is_given, is_naming}
 use Rattle.control_rules.specs.Standing.{beside, listed, of_its_kind, read, standing, status_at}
 use Rattle.control_rules.specs.Slots.{ObjectEntry, state_at, same_name}
@@ -84,6 +86,22 @@ is_meaning st r name t = bytes_eq (meant_name st r t) name
 unfoldable pub is_pinned : Name → Option Object → Bool
 is_pinned r o = listed r.name (read [] pins_of (of_its_kind kind.Revision o))
 
+-- what Routes read of a Revision but its pins: its uid, whether it was ready once, and whether it is ready
+abbrev pub sight_of : Option Object → Option (ℕ × (Bool × Bool))
+sight_of None = None
+sight_of (Some v) = Some (v.meta.stamp.uid, (has_been_ready v, has_condition condition.Ready truth.True v))
+
+-- whether that is the same of two
+abbrev pub is_same_sight : Option (ℕ × (Bool × Bool)) → Option (ℕ × (Bool × Bool)) → Bool
+is_same_sight None None = true
+is_same_sight None (Some b) = false
+is_same_sight (Some a) None = false
+is_same_sight (Some a) (Some b) = (a.0 == b.0) && not (is_changed a.1.0 b.1.0 || is_changed a.1.1 b.1.1)
+
+-- whether what was there is read as what is there
+unfoldable pub is_alike : Option Object → Option Object → Bool
+is_alike old new = is_same_sight (sight_of (of_its_kind kind.Revision old)) (sight_of (of_its_kind kind.Revision new))
+
 -- ---- what a change at a key touches, by the controller
 
 -- a Service: itself, its Configuration and its Route
@@ -110,12 +128,13 @@ touches_collector k old new n =
     || (is_one_of kind.Revision n.space (is_under n.name) k
     || is_retargeted_at n.space (is_under n.name) old new)
 
--- a Route: itself, its Table and its Service, a Configuration that a target is on, and a Revision that a target means or that it has a pin at
-unfoldable pub touches_route : State → Key → Option Object → Name → Bool
-touches_route st k new r =
+-- a Route: itself, its Table and its Service, a Configuration that a target is on, a Revision that gets or loses its pin, and one that a target means
+-- and that is read otherwise
+unfoldable pub touches_route : State → Key → Option Object → Option Object → Name → Bool
+touches_route st k old new r =
     is_one (kind.Route ∷ kind.Table ∷ kind.Service ∷ []) r k
     || (is_one_of kind.Configuration r.space (λ name. list_any (is_on name) (targets_at st r)) k
-    || is_one_of kind.Revision r.space (λ name. is_pinned r new || list_any (is_meaning st r name) (targets_at st r)) k)
+    || is_one_of kind.Revision r.space (λ name. is_changed (is_pinned r old) (is_pinned r new) || (not (is_alike old new) && list_any (is_meaning st r name) (targets_at st r))) k)
 
 -- by the controller, in the state that now stands
 abbrev pub touches_of : State → Key → Option Object → Option Object → Controller → Name → Bool
@@ -123,7 +142,7 @@ touches_of st k old new controller.Service n = touches_service k n
 touches_of st k old new controller.Configuration n = touches_configuration k n
 touches_of st k old new controller.Revision n = touches_revision k old new n
 touches_of st k old new controller.Collector n = touches_collector k old new n
-touches_of st k old new controller.Route n = touches_route st k new n
+touches_of st k old new controller.Route n = touches_route st k old new n
 
 unfoldable pub touches : State → Key → Option Object → Option Object → SlotKey → Bool
 touches st k old new pick = touches_of st k old new pick.controller pick.name

@@ -1,0 +1,6 @@
+pub mod Before
+pub mod Placed
+pub mod Noted
+pub mod Adding
+pub mod Covering
+pub mod Taking

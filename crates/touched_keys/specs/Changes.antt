@@ -1,0 +1,77 @@
+-- What contracts see of a change.
+use Rattle.std.specs.Prelude.{◌≡◌, ℕ, ◌<◌, ◌&&◌, ◌||◌, Bool, not, true, List, [], slice_get, Option, Some}
+use Rattle.std.specs.List.{list_any}
+use Rattle.resource_types.specs.declared.names.Kind.TheVariants as kind
+use Rattle.resource_types.specs.declared.specification.Target.{Target}
+use Rattle.resource_types.specs.Objects.{same_kind, pins_of}
+use Rattle.control_rules.specs.Standing.{beside, of_its_kind, read}
+use Rattle.resource_types.specs.declared.names.Key.{Key}
+use Rattle.resource_types.specs.declared.names.SlotKey.{SlotKey}
+use Rattle.resource_types.specs.declared.objects.Object.{Object}
+use Rattle.resource_types.specs.Lookups.{State, is_empty}
+use Rattle.resource_types.specs.declared.names.Controller.{Controller}
+use Rattle.resource_types.specs.declared.names.Controller.TheVariants as controller
+use Rattle.resource_types.specs.declared.names.Name.{Name}
+use Rattle.control_rules.specs.Slots.{slot_key, is_key}
+use Rattle.control_touches.specs.Touches.{is_lost, is_alike, is_pinned, targets_in, touches}
+use Rattle.touched_keys.specs.declared.marks.Mark.{Mark}
+use Rattle.touched_keys.specs.Marks.{is_marked}
+
+-- what stands now, the key that was changed, and what stood there before and after
+pub record ChangeView : Type 0 where
+  pub state : State
+  pub key : Key
+  pub old : Option Object
+  pub new : Option Object
+
+-- the change touches the key
+abbrev pub IsTouched : ChangeView → SlotKey → Type 0
+IsTouched c pick = touches c.state c.key c.old c.new pick ≡ true
+
+-- each key of the controller by the name of one of the objects is marked, where the change touches it
+abbrev pub MarksEach : ChangeView → Controller → List Object → List Mark → Type 0
+MarksEach c by os keys = (i : ℕ) (o : Object) → slice_get os i ≡ Some o → IsTouched c (slot_key by o.key.name) → is_marked (slot_key by o.key.name) keys ≡ true
+
+-- the same of the first n objects
+abbrev pub MarksFirst : ℕ → ChangeView → Controller → List Object → List Mark → Type 0
+MarksFirst n c by os keys = (i : ℕ) (o : Object) → i < n → slice_get os i ≡ Some o → IsTouched c (slot_key by o.key.name) → is_marked (slot_key by o.key.name) keys ≡ true
+
+-- each key of the controller is marked, where the change touches it
+abbrev pub MarksAll : ChangeView → Controller → List Mark → Type 0
+MarksAll c by keys = (n : Name) → is_key (slot_key by n) c.state ≡ true → IsTouched c (slot_key by n) → is_marked (slot_key by n) keys ≡ true
+
+-- each key of a Route that has a pin at what is there is marked, where the change touches it
+abbrev pub MarksPins : ChangeView → Option Object → List Mark → Type 0
+MarksPins c o keys = (n : Name) → n.space ≡ c.key.name.space → is_pinned n o ≡ true → IsTouched c (slot_key controller.Route n) → is_marked (slot_key controller.Route n) keys ≡ true
+
+-- the same of the first n of these names
+abbrev pub MarksNamed : ℕ → ChangeView → List (List ℕ) → List Mark → Type 0
+MarksNamed n c names keys = (i : ℕ) (name : List ℕ) → i < n → slice_get names i ≡ Some name → IsTouched c (slot_key controller.Route (beside c.key.name name)) → is_marked (slot_key controller.Route (beside c.key.name name)) keys ≡ true
+
+-- ---- which walks are needed
+
+-- whether one of the targets names a Revision
+abbrev pub has_names : List Target → Bool
+has_names ts = list_any (λ (t : Target). not (is_empty t.revision)) ts
+
+-- whether a target of what was or is there names a Revision
+abbrev pub names_revisions : ChangeView → Bool
+names_revisions c = has_names (targets_in c.old) || has_names (targets_in c.new)
+
+-- whether keys of other names than its own may be touched: of Configurations, of Revisions, of Collectors
+abbrev pub walks_configurations : ChangeView → Bool
+walks_configurations c = same_kind c.key.kind kind.Revision
+
+abbrev pub walks_revisions : ChangeView → Bool
+walks_revisions c = is_lost c.old c.new || names_revisions c
+
+abbrev pub walks_collectors : ChangeView → Bool
+walks_collectors c = same_kind c.key.kind kind.Revision || names_revisions c
+
+-- whether targets of Routes may read otherwise what was changed
+abbrev pub is_read_by_targets : ChangeView → Bool
+is_read_by_targets c = same_kind c.key.kind kind.Configuration || (same_kind c.key.kind kind.Revision && not (is_alike c.old c.new))
+
+-- the pins of what is there; none where it isn't a Revision
+abbrev pub pins_in : Option Object → List (List ℕ)
+pins_in o = read [] pins_of (of_its_kind kind.Revision o)
