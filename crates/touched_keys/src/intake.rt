@@ -64,7 +64,12 @@ fn mark_every_collector(
 {
     let configurations = store.walk(Kind::Configuration);
     for place in 0..configurations.len() {
-        mark(alloc, keys, Controller::Collector, &configurations.at(place).key.name)?;
+        mark(
+            alloc,
+            keys,
+            Controller::Collector,
+            &configurations.at(place).key.name,
+        )?;
     }
     Ok(())
 }

@@ -188,9 +188,21 @@ fn mark_configurations(
     ensures adds { Adds (IsTouched change.now) keys.old keys.new }
     ensures all { OnOk result (MarksAll change.now Controller.Configuration keys.new) }
 {
-    mark_if(alloc, keys, change, Controller::Configuration, &change.key.name)?;
+    mark_if(
+        alloc,
+        keys,
+        change,
+        Controller::Configuration,
+        &change.key.name,
+    )?;
     if change.walks_configurations() {
-        mark_walk(alloc, keys, change, Controller::Configuration, Kind::Configuration)?;
+        mark_walk(
+            alloc,
+            keys,
+            change,
+            Controller::Configuration,
+            Kind::Configuration,
+        )?;
     }
     Ok(())
 }
@@ -222,7 +234,13 @@ fn mark_collectors(
 {
     mark_if(alloc, keys, change, Controller::Collector, &change.key.name)?;
     if change.walks_collectors() {
-        mark_walk(alloc, keys, change, Controller::Collector, Kind::Configuration)?;
+        mark_walk(
+            alloc,
+            keys,
+            change,
+            Controller::Collector,
+            Kind::Configuration,
+        )?;
     }
     Ok(())
 }
@@ -240,17 +258,19 @@ fn mark_pins(
     for pin in pins_in(object) {
         let space = change.key.name.space.copy(alloc)?;
         let name = pin.copy(alloc)?;
-        mark_if(alloc, keys, change, Controller::Route, &Name { space, name })?;
+        mark_if(
+            alloc,
+            keys,
+            change,
+            Controller::Route,
+            &Name { space, name },
+        )?;
     }
     Ok(())
 }
 
 // Marks the Routes that it touches.
-fn mark_routes(
-    alloc: Global,
-    keys: &mut SlotTable<Mark>,
-    change: &Change,
-) -> Result<(), AllocError>
+fn mark_routes(alloc: Global, keys: &mut SlotTable<Mark>, change: &Change) -> Result<(), AllocError>
     ensures adds { Adds (IsTouched change.now) keys.old keys.new }
     ensures all { OnOk result (MarksAll change.now Controller.Route keys.new) }
 {

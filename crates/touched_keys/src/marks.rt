@@ -41,7 +41,7 @@ pub struct Marks {
 }
 
 impl Model for Marks {
-ghost use Rattle.touched_keys.specs.Marks.{MarksView};
+    ghost use Rattle.touched_keys.specs.Marks.{MarksView};
 
     ghost Value = { MarksView };
 

@@ -43,10 +43,19 @@ fn is_naming(kind: Kind, space: &Text, name: &Text, object: Option<&Object>) -> 
 
 // Whether a target of what is there, of the kind, named the Revision and does no more, or does now.
 #[tactic(auto, unfolding(control_touches::specs::Touches::is_renamed))]
-fn is_renamed(kind: Kind, space: &Text, name: &Text, old: Option<&Object>, new: Option<&Object>) -> bool
+fn is_renamed(
+    kind: Kind,
+    space: &Text,
+    name: &Text,
+    old: Option<&Object>,
+    new: Option<&Object>,
+) -> bool
     ensures { result ≡ is_renamed kind (record { space = space.now; name = name.now }) (option_copied old.entry) (option_copied new.entry) }
 {
-    is_changed(is_naming(kind, space, name, old), is_naming(kind, space, name, new))
+    is_changed(
+        is_naming(kind, space, name, old),
+        is_naming(kind, space, name, new),
+    )
 }
 
 /// Whether a target of a Service or a Route named the Revision and does no more, or does now.
@@ -70,7 +79,12 @@ pub fn targets_in<'a>(object: Option<&'a Object>) -> &'a [Target]
 }
 
 // Whether that is so of a Revision under the name that the target names.
-fn is_target_under(owner: &Name, old: Option<&Object>, new: Option<&Object>, target: &Target) -> bool
+fn is_target_under(
+    owner: &Name,
+    old: Option<&Object>,
+    new: Option<&Object>,
+    target: &Target,
+) -> bool
     ensures { result ≡ (is_under owner.now.name target.now.revision && is_retargeted (record { space = owner.now.space; name = target.now.revision }) (option_copied old.entry) (option_copied new.entry)) }
 {
     is_under(&owner.name, &target.revision)
@@ -86,7 +100,9 @@ fn is_any_retargeted(
 ) -> bool
     ensures { result ≡ list_any (λ t. is_under owner.now.name t.revision && is_retargeted (record { space = owner.now.space; name = t.revision }) (option_copied old.entry) (option_copied new.entry)) targets.now }
 {
-    targets.iter().any(|target| is_target_under(owner, old, new, target))
+    targets
+        .iter()
+        .any(|target| is_target_under(owner, old, new, target))
 }
 
 /// Whether a target of a Service or a Route named a Revision under the name and does no more, or does now.
@@ -122,7 +138,12 @@ fn is_meaning(store: &Store<Object>, route: &Name, name: &Text, target: &Target)
     if !target.revision.is_empty() {
         return target.revision == *name;
     }
-    match standing(store, Kind::Configuration, &route.space, &target.configuration) {
+    match standing(
+        store,
+        Kind::Configuration,
+        &route.space,
+        &target.configuration,
+    ) {
         Some(configuration) => match configuration.body.status() {
             Some(status) => status.ready == *name,
             None => name.is_empty(),
@@ -132,13 +153,10 @@ fn is_meaning(store: &Store<Object>, route: &Name, name: &Text, target: &Target)
 }
 
 /// Whether one of the targets means the Revision.
-pub fn is_any_meaning(
-    store: &Store<Object>,
-    route: &Name,
-    name: &Text,
-    targets: &[Target],
-) -> bool
+pub fn is_any_meaning(store: &Store<Object>, route: &Name, name: &Text, targets: &[Target]) -> bool
     ensures { result ≡ list_any (is_meaning (state store.now.entries) route.now name.now) targets.now }
 {
-    targets.iter().any(|target| is_meaning(store, route, name, target))
+    targets
+        .iter()
+        .any(|target| is_meaning(store, route, name, target))
 }

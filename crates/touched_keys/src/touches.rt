@@ -156,7 +156,11 @@ fn is_revision_of(
 fn touches_service(key: &Key, name: &Name) -> bool
     ensures { result ≡ touches_service key.now name.now }
 {
-    is_one(&[Kind::Service, Kind::Configuration, Kind::Route], name, key)
+    is_one(
+        &[Kind::Service, Kind::Configuration, Kind::Route],
+        name,
+        key,
+    )
 }
 
 // Whether it touches the Configuration.
