@@ -15,6 +15,3 @@ mod versions;
 
 pub use calls::{Call, PathError};
 pub use route::route_of;
-
-#[cfg(test)]
-mod tests;

@@ -27,6 +27,3 @@ pub use names::{Actor, ClientKind, Controller, Key, Kind, Name, SlotKey};
 pub use objects::{Body, Object, with_status};
 pub use specification::{PodSpec, Row, Target, Template};
 pub use status::ObjectStatus;
-
-#[cfg(test)]
-mod tests;

@@ -25,6 +25,3 @@ mod traffic;
 
 pub use controller::{RouteBy, RouteRec};
 pub use statuses::route_status;
-
-#[cfg(test)]
-mod tests;
