@@ -2,3 +2,5 @@ pub mod Named
 pub mod Keying
 pub mod Routing
 pub mod Nexts
+pub mod Least
+pub mod Behind

@@ -1,4 +1,4 @@
--- Names of the Route controller, put in order one after another from the last.
+-- A step for each name of the Route controller, one after another from the last; so names are put in order.
 use Rattle.std.proofs.Common.{◌≡◌, ℕ, zero, suc, ◌+◌, ◌-◌, ◌<◌, ◌≤◌, Bool, true, false, ◌&&◌, cond, List, [], ◌∷◌, ◌++◌, length, drop, Some, Ordering, refl, sym, ap, ◌∙◌, arith}
 use Rattle.std.specs.Prelude.{map, slice_get}
 use Rattle.std.specs.List.{filter}
@@ -16,7 +16,7 @@ use Rattle.resource_types.proofs.Lists.{drop_at}
 use Rattle.control_rules.specs.Standing.{beside}
 use Rattle.control_rules.specs.Slots.{names_of, holders, all_holders, in_order, names_for}
 use Rattle.slot_keys.specs.declared.routed.Routed.{Routed}
-use Rattle.slot_keys.specs.Routed.{put_name, put_names, names_in}
+use Rattle.slot_keys.specs.Routed.{from_last, put_name, put_names, names_in}
 use Rattle.slot_keys.proofs.Keying.{names_kind}
 
 -- ---- rows
@@ -34,13 +34,13 @@ names-put new (row ∷ rows) = put_by (name_order.ghosts.cmp new.name row.name) 
 
 -- ---- one after another
 
-pub put-append : (xs ys ms : List Name) → put_names (xs ++ ys) ms ≡ put_names xs (put_names ys ms)
-unfolding put_names
-put-append [] ys ms = refl
-put-append (x ∷ xs) ys ms = ap (put_name x) (put-append xs ys ms)
+pub steps-append : {A : Type 0} (step : Name → A → A) (xs ys : List Name) (a : A) → from_last step (xs ++ ys) a ≡ from_last step xs (from_last step ys a)
+unfolding from_last
+steps-append step [] ys a = refl
+steps-append step (x ∷ xs) ys a = ap (step x) (steps-append step xs ys a)
 
 pub put-order : (xs : List Name) → put_names xs [] ≡ in_order xs
-unfolding put_names in_order
+unfolding from_last in_order
 put-order [] = refl
 put-order (x ∷ xs) = ap (put_name x) (put-order xs)
 
@@ -51,8 +51,8 @@ unfolding names_for
 names_routed st a b c p q r =
     let pins = all_holders (filter (is_of kind.Revision) st) in
     r ∙ ap (put_names (names_of kind.Route st)) (q ∙ ap (put_names (names_of kind.Table st)) p)
-    ∙ sym (ap (put_names (names_of kind.Route st)) (put-append (names_of kind.Table st) pins []))
-    ∙ sym (put-append (names_of kind.Route st) (names_of kind.Table st ++ pins) [])
+    ∙ sym (ap (put_names (names_of kind.Route st)) (steps-append put_name (names_of kind.Table st) pins []))
+    ∙ sym (steps-append put_name (names_of kind.Route st) (names_of kind.Table st ++ pins) [])
     ∙ put-order (names_of kind.Route st ++ (names_of kind.Table st ++ pins))
 
 -- ---- an object more
@@ -69,70 +69,54 @@ none_more left le = omega (arith, le)
 before_last : (left : ℕ) → 0 < left → left ≡ left - 1 + 1
 before_last left some = omega (arith, some)
 
-pub kind_init : (k : Kind) (objects : State) (after : List Name) (left : ℕ) → left ≡ length objects → after ≡ put_names (names_of k (drop left objects)) after
-unfolding put_names
-kind_init k objects after left e = sym (ap (λ os. put_names (names_of k os) after) (ap (λ n. drop n objects) e ∙ nothing_left objects))
+module _ {A : Type 0} (step : Name → A → A) where
+  pub kind_init : (k : Kind) (objects : State) (after : A) (left : ℕ) → left ≡ length objects → after ≡ from_last step (names_of k (drop left objects)) after
+  unfolding from_last
+  kind_init k objects after left e = sym (ap (λ os. from_last step (names_of k os) after) (ap (λ n. drop n objects) e ∙ nothing_left objects))
 
-pub kind_whole : (k : Kind) (objects st : State) (names after : List Name) (left : ℕ) → left ≤ 0 → objects ≡ of_kind k st → names ≡ put_names (names_of k (drop left objects)) after
-    → names ≡ put_names (names_of k st) after
-kind_whole k objects st names after left none walk e =
-    e ∙ ap (λ n. put_names (names_of k (drop n objects)) after) (none_more left none) ∙ ap (λ os. put_names (names_of k os) after) walk ∙ ap (λ ns. put_names ns after) (names_kind k st)
+  pub kind_whole : (k : Kind) (objects st : State) (names after : A) (left : ℕ) → left ≤ 0 → objects ≡ of_kind k st → names ≡ from_last step (names_of k (drop left objects)) after
+      → names ≡ from_last step (names_of k st) after
+  kind_whole k objects st names after left none walk e =
+      e ∙ ap (λ n. from_last step (names_of k (drop n objects)) after) (none_more left none) ∙ ap (λ os. from_last step (names_of k os) after) walk
+      ∙ ap (λ ns. from_last step ns after) (names_kind k st)
 
-module _ (k : Kind) (objects : State) (before after : List Name) (left : ℕ) (some : 0 < left) (so_far : before ≡ put_names (names_of k (drop left objects)) after) (o : Object) (at : slice_get objects (left - 1) ≡ Some o) where
-  abbrev rest_of : State
-  rest_of = filter (is_of k) (drop (left - 1 + 1) objects)
+  module _ (k : Kind) (objects : State) (before after : A) (left : ℕ) (some : 0 < left) (so_far : before ≡ from_last step (names_of k (drop left objects)) after) (o : Object) (at : slice_get objects (left - 1) ≡ Some o) where
+    abbrev rest_of : State
+    rest_of = filter (is_of k) (drop (left - 1 + 1) objects)
 
-  names_at : names_of k (drop (left - 1) objects) ≡ map (λ (x : Object). x.key.name) (cond (is_of k o) (o ∷ rest_of) rest_of)
-  names_at = ap (names_of k) (drop_at objects (left - 1) o at)
+    names_at : names_of k (drop (left - 1) objects) ≡ map (λ (x : Object). x.key.name) (cond (is_of k o) (o ∷ rest_of) rest_of)
+    names_at = ap (names_of k) (drop_at objects (left - 1) o at)
 
-  far : before ≡ put_names (map (λ (x : Object). x.key.name) rest_of) after
-  far = so_far ∙ ap (λ n. put_names (names_of k (drop n objects)) after) (before_last left some)
+    far : before ≡ from_last step (map (λ (x : Object). x.key.name) rest_of) after
+    far = so_far ∙ ap (λ n. from_last step (names_of k (drop n objects)) after) (before_last left some)
 
-  -- of the kind, or not
-  pub kind_more : (names : List Name) → is_of k o ≡ true → names ≡ put_name o.key.name before → names ≡ put_names (names_of k (drop (left - 1) objects)) after
-  unfolding put_names
-  kind_more names is e =
-      e ∙ ap (put_name o.key.name) far ∙ sym (ap (λ ns. put_names ns after) (names_at ∙ ap (λ b. map (λ (x : Object). x.key.name) (cond b (o ∷ rest_of) rest_of)) is))
+    -- of the kind, or not
+    pub kind_more : (names : A) → is_of k o ≡ true → names ≡ step o.key.name before → names ≡ from_last step (names_of k (drop (left - 1) objects)) after
+    unfolding from_last
+    kind_more names is e =
+        e ∙ ap (step o.key.name) far ∙ sym (ap (λ ns. from_last step ns after) (names_at ∙ ap (λ b. map (λ (x : Object). x.key.name) (cond b (o ∷ rest_of) rest_of)) is))
 
-  pub kind_less : is_of k o ≡ false → before ≡ put_names (names_of k (drop (left - 1) objects)) after
-  kind_less is = far ∙ sym (ap (λ ns. put_names ns after) (names_at ∙ ap (λ b. map (λ (x : Object). x.key.name) (cond b (o ∷ rest_of) rest_of)) is))
+    pub kind_less : is_of k o ≡ false → before ≡ from_last step (names_of k (drop (left - 1) objects)) after
+    kind_less is = far ∙ sym (ap (λ ns. from_last step ns after) (names_at ∙ ap (λ b. map (λ (x : Object). x.key.name) (cond b (o ∷ rest_of) rest_of)) is))
 
 -- ---- a pin more
 
-pub pins_init : (n : Name) (pins : List (List ℕ)) (after : List Name) → after ≡ put_names (map (beside n) (drop (length pins) pins)) after
-unfolding put_names
-pins_init n pins after = sym (ap (λ ps. put_names (map (beside n) ps) after) (nothing_left pins))
+module _ {A : Type 0} (step : Name → A → A) where
+  pub pins_init : (n : Name) (pins : List (List ℕ)) (after : A) → after ≡ from_last step (map (beside n) (drop (length pins) pins)) after
+  unfolding from_last
+  pins_init n pins after = sym (ap (λ ps. from_last step (map (beside n) ps) after) (nothing_left pins))
 
-pub pin_more : (n : Name) (pins : List (List ℕ)) (before after names : List Name) (left : ℕ) (pin : List ℕ) → 0 < left → before ≡ put_names (map (beside n) (drop left pins)) after
-    → slice_get pins (left - 1) ≡ Some pin → names ≡ put_name (beside n pin) before → names ≡ put_names (map (beside n) (drop (left - 1) pins)) after
-unfolding put_names
-pin_more n pins before after names left pin some so_far at e =
-    e ∙ ap (put_name (beside n pin)) (so_far ∙ ap (λ i. put_names (map (beside n) (drop i pins)) after) (before_last left some))
-    ∙ sym (ap (λ ps. put_names (map (beside n) ps) after) (drop_at pins (left - 1) pin at))
+  pub pin_more : (n : Name) (pins : List (List ℕ)) (before after names : A) (left : ℕ) (pin : List ℕ) → 0 < left → before ≡ from_last step (map (beside n) (drop left pins)) after
+      → slice_get pins (left - 1) ≡ Some pin → names ≡ step (beside n pin) before → names ≡ from_last step (map (beside n) (drop (left - 1) pins)) after
+  unfolding from_last
+  pin_more n pins before after names left pin some so_far at e =
+      e ∙ ap (step (beside n pin)) (so_far ∙ ap (λ i. from_last step (map (beside n) (drop i pins)) after) (before_last left some))
+      ∙ sym (ap (λ ps. from_last step (map (beside n) ps) after) (drop_at pins (left - 1) pin at))
+
+  pub pins_whole : (n : Name) (pins : List (List ℕ)) (names after : A) (left : ℕ) → left ≤ 0 → names ≡ from_last step (map (beside n) (drop left pins)) after → names ≡ from_last step (map (beside n) pins) after
+  pins_whole n pins names after left none e = e ∙ ap (λ i. from_last step (map (beside n) (drop i pins)) after) (none_more left none)
 
 -- ---- a Revision more
-
-pub holders_init : (objects : State) (after : List Name) (left : ℕ) → left ≡ length objects → after ≡ put_names (all_holders (filter (is_of kind.Revision) (drop left objects))) after
-unfolding put_names
-holders_init objects after left e = sym (ap (λ os. put_names (all_holders (filter (is_of kind.Revision) os)) after) (ap (λ n. drop n objects) e ∙ nothing_left objects))
-
-module _ (objects : State) (before after : List Name) (left : ℕ) (some : 0 < left) (so_far : before ≡ put_names (all_holders (filter (is_of kind.Revision) (drop left objects))) after) (o : Object) (at : slice_get objects (left - 1) ≡ Some o) where
-  abbrev rest : State
-  rest = filter (is_of kind.Revision) (drop (left - 1 + 1) objects)
-
-  holders_at : all_holders (filter (is_of kind.Revision) (drop (left - 1) objects)) ≡ all_holders (cond (is_of kind.Revision o) (o ∷ rest) rest)
-  holders_at = ap (λ os. all_holders (filter (is_of kind.Revision) os)) (drop_at objects (left - 1) o at)
-
-  held : before ≡ put_names (all_holders rest) after
-  held = so_far ∙ ap (λ n. put_names (all_holders (filter (is_of kind.Revision) (drop n objects))) after) (before_last left some)
-
-  pub holders_more : (names : List Name) → is_of kind.Revision o ≡ true → names ≡ put_names (holders o) before → names ≡ put_names (all_holders (filter (is_of kind.Revision) (drop (left - 1) objects))) after
-  holders_more names is e =
-      e ∙ ap (put_names (holders o)) held ∙ sym (put-append (holders o) (all_holders rest) after)
-      ∙ sym (ap (λ ns. put_names ns after) (holders_at ∙ ap (λ b. all_holders (cond b (o ∷ rest) rest)) is))
-
-  pub holders_less : is_of kind.Revision o ≡ false → before ≡ put_names (all_holders (filter (is_of kind.Revision) (drop (left - 1) objects))) after
-  holders_less is = held ∙ sym (ap (λ ns. put_names ns after) (holders_at ∙ ap (λ b. all_holders (cond b (o ∷ rest) rest)) is))
 
 -- the Revisions among the objects of their kind are those among all
 filter_by : (o : Object) (one other : State) → filter (is_of kind.Revision) one ≡ filter (is_of kind.Revision) other → (a b : Bool) → is_of kind.Revision o ≡ (a && b)
@@ -144,11 +128,34 @@ revisions_kind : (st : State) → filter (is_of kind.Revision) (of_kind kind.Rev
 revisions_kind [] = refl
 revisions_kind (o ∷ st) = filter_by o (of_kind kind.Revision st) st (revisions_kind st) (same_kind o.key.kind kind.Revision) (same_kind (kind_of_body o.body) kind.Revision) refl
 
-pub holders_whole : (objects st : State) (names after : List Name) (left : ℕ) → left ≤ 0 → objects ≡ of_kind kind.Revision st → names ≡ put_names (all_holders (filter (is_of kind.Revision) (drop left objects))) after
-    → names ≡ put_names (all_holders (filter (is_of kind.Revision) st)) after
-holders_whole objects st names after left none walk e =
-    e ∙ ap (λ n. put_names (all_holders (filter (is_of kind.Revision) (drop n objects))) after) (none_more left none)
-    ∙ ap (λ os. put_names (all_holders (filter (is_of kind.Revision) os)) after) walk ∙ ap (λ os. put_names (all_holders os) after) (revisions_kind st)
+module _ {A : Type 0} (step : Name → A → A) where
+  pub holders_init : (objects : State) (after : A) (left : ℕ) → left ≡ length objects → after ≡ from_last step (all_holders (filter (is_of kind.Revision) (drop left objects))) after
+  unfolding from_last
+  holders_init objects after left e = sym (ap (λ os. from_last step (all_holders (filter (is_of kind.Revision) os)) after) (ap (λ n. drop n objects) e ∙ nothing_left objects))
+
+  module _ (objects : State) (before after : A) (left : ℕ) (some : 0 < left) (so_far : before ≡ from_last step (all_holders (filter (is_of kind.Revision) (drop left objects))) after) (o : Object) (at : slice_get objects (left - 1) ≡ Some o) where
+    abbrev rest : State
+    rest = filter (is_of kind.Revision) (drop (left - 1 + 1) objects)
+
+    holders_at : all_holders (filter (is_of kind.Revision) (drop (left - 1) objects)) ≡ all_holders (cond (is_of kind.Revision o) (o ∷ rest) rest)
+    holders_at = ap (λ os. all_holders (filter (is_of kind.Revision) os)) (drop_at objects (left - 1) o at)
+
+    held : before ≡ from_last step (all_holders rest) after
+    held = so_far ∙ ap (λ n. from_last step (all_holders (filter (is_of kind.Revision) (drop n objects))) after) (before_last left some)
+
+    pub holders_more : (names : A) → is_of kind.Revision o ≡ true → names ≡ from_last step (holders o) before → names ≡ from_last step (all_holders (filter (is_of kind.Revision) (drop (left - 1) objects))) after
+    holders_more names is e =
+        e ∙ ap (from_last step (holders o)) held ∙ sym (steps-append step (holders o) (all_holders rest) after)
+        ∙ sym (ap (λ ns. from_last step ns after) (holders_at ∙ ap (λ b. all_holders (cond b (o ∷ rest) rest)) is))
+
+    pub holders_less : is_of kind.Revision o ≡ false → before ≡ from_last step (all_holders (filter (is_of kind.Revision) (drop (left - 1) objects))) after
+    holders_less is = held ∙ sym (ap (λ ns. from_last step ns after) (holders_at ∙ ap (λ b. all_holders (cond b (o ∷ rest) rest)) is))
+
+  pub holders_whole : (objects st : State) (names after : A) (left : ℕ) → left ≤ 0 → objects ≡ of_kind kind.Revision st → names ≡ from_last step (all_holders (filter (is_of kind.Revision) (drop left objects))) after
+      → names ≡ from_last step (all_holders (filter (is_of kind.Revision) st)) after
+  holders_whole objects st names after left none walk e =
+      e ∙ ap (λ n. from_last step (all_holders (filter (is_of kind.Revision) (drop n objects))) after) (none_more left none)
+      ∙ ap (λ os. from_last step (all_holders (filter (is_of kind.Revision) os)) after) walk ∙ ap (λ os. from_last step (all_holders os) after) (revisions_kind st)
 
 -- ---- a row more
 
