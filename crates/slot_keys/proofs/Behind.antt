@@ -26,7 +26,7 @@ use Rattle.resource_types.proofs.Ordered.{state-order}
 use Rattle.control_rules.specs.Standing.{key_at}
 use Rattle.control_rules.specs.Slots.{names_of, slot_key, keys_for, names_for, all_holders}
 use Rattle.control_rules.specs.Steps.{is_after}
-use Rattle.slot_keys.specs.Routed.{from_last}
+use Rattle.slot_keys.specs.Routed.{after_each}
 use Rattle.slot_keys.specs.Nexts.{comes_after, lesser, with_name}
 use Rattle.slot_keys.proofs.Keying.{names_kind, drop_past}
 use Rattle.slot_keys.proofs.Routing.{steps-append}
@@ -140,7 +140,7 @@ upward (Some last) a b e after =
 pub next_routed : (cursor : Option SlotKey) (entries : Journal) (route table pin : Option Name)
     → route ≡ find (comes_after cursor controller.Route) (names_of kind.Route (state entries))
     → table ≡ find (comes_after cursor controller.Route) (names_of kind.Table (state entries))
-    → pin ≡ from_last (with_name (comes_after cursor controller.Route)) (all_holders (filter (is_of kind.Revision) (state entries))) None
+    → pin ≡ after_each (with_name (comes_after cursor controller.Route)) (all_holders (filter (is_of kind.Revision) (state entries))) None
     → lesser route (lesser table pin) ≡ find (comes_after cursor controller.Route) (names_for controller.Route (state entries))
 unfolding names_for
 next_routed cursor entries route table pin e f g =
@@ -153,9 +153,9 @@ next_routed cursor entries route table pin e f g =
     ap (λ r. lesser r (lesser table pin)) e
     ∙ ap (λ t. lesser (find p routes) (lesser t pin)) f
     ∙ ap (λ x. lesser (find p routes) (lesser (find p tables) x)) g
-    ∙ ap (lesser (find p routes)) (sym (first_enough p tables (names_ordered kind.Table st ordered) (from_last (with_name p) pins None)))
-    ∙ sym (first_enough p routes (names_ordered kind.Route st ordered) (from_last (with_name p) tables (from_last (with_name p) pins None)))
-    ∙ ap (from_last (with_name p) routes) (sym (steps-append (with_name p) tables pins None))
+    ∙ ap (lesser (find p routes)) (sym (first_enough p tables (names_ordered kind.Table st ordered) (after_each (with_name p) pins None)))
+    ∙ sym (first_enough p routes (names_ordered kind.Route st ordered) (after_each (with_name p) tables (after_each (with_name p) pins None)))
+    ∙ ap (after_each (with_name p) routes) (sym (steps-append (with_name p) tables pins None))
     ∙ sym (steps-append (with_name p) routes (tables ++ pins) None)
     ∙ sym (find-in_order p (upward cursor) (routes ++ (tables ++ pins)))
 

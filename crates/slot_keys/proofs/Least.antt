@@ -20,8 +20,9 @@ use Rattle.resource_types.specs.Lookups.{State}
 use Rattle.resource_types.proofs.Exact.{left, kind-exact, name-exact}
 use Rattle.control_rules.specs.Slots.{names_of, in_order}
 use Rattle.slot_table.proofs.Place.{key_self}
-use Rattle.slot_keys.specs.Routed.{from_last, put_name}
+use Rattle.slot_keys.specs.Routed.{after_each, put_name}
 use Rattle.slot_keys.specs.Nexts.{lesser, with_name}
+use Rattle.slot_keys.proofs.Swaps.{put_swaps}
 
 -- ---- names put in order
 
@@ -41,10 +42,35 @@ module _ (p : Name → Bool) (upward : (a b : Name) → name_order.ghosts.cmp a 
   find-put n (m ∷ ms) = put_by n m ms (put_name n ms) (find-put n ms) (name_order.ghosts.cmp n m) refl (p n) refl (p m) refl
 
   -- with a name, all that are greater pass: so the first is the least
-  pub find-in_order : (ns : List Name) → find p (in_order ns) ≡ from_last (with_name p) ns None
-  unfolding in_order from_last
+  pub find-in_order : (ns : List Name) → find p (in_order ns) ≡ after_each (with_name p) ns None
+  unfolding in_order after_each
   find-in_order [] = refl
   find-in_order (n ∷ ns) = find-put n (in_order ns) ∙ ap (with_name p n) (find-in_order ns)
+
+-- ---- one name after another
+
+abbrev any_name : Name → Bool
+any_name n = true
+
+lesser_in : (n m : Name) (ms : List Name) → lesser (Some n) (lesser (Some m) (find any_name ms)) ≡ lesser (Some m) (lesser (Some n) (find any_name ms))
+lesser_in n m ms =
+    let put = find-put any_name (λ a b e f. refl) in
+    ap (lesser (Some n)) (sym (put m ms)) ∙ sym (put n (put_name m ms)) ∙ ap (find any_name) (put_swaps n m ms) ∙ put m (put_name n ms) ∙ ap (lesser (Some m)) (put n ms)
+
+lesser_swaps : (n m : Name) (least : Option Name) → lesser (Some n) (lesser (Some m) least) ≡ lesser (Some m) (lesser (Some n) least)
+lesser_swaps n m None = lesser_in n m []
+lesser_swaps n m (Some k) = lesser_in n m (k ∷ [])
+
+-- names may count one before the other
+pub with_swaps : (p : Name → Bool) (n m : Name) (least : Option Name) → with_name p n (with_name p m least) ≡ with_name p m (with_name p n least)
+with_swaps p n m least = go (p n) (p m)
+  where
+    go : (a b : Bool) → cond a (lesser (Some n) (cond b (lesser (Some m) least) least)) (cond b (lesser (Some m) least) least)
+        ≡ cond b (lesser (Some m) (cond a (lesser (Some n) least) least)) (cond a (lesser (Some n) least) least)
+    go true true = lesser_swaps n m least
+    go true false = refl
+    go false true = refl
+    go false false = refl
 
 -- ---- names that stand in order
 
@@ -68,8 +94,8 @@ module _ (p : Name → Bool) where
       go false ih = ih
 
   -- of names in order, the first that passes is enough
-  pub first_enough : (ns : List Name) → AreInOrder (λ (m : Name). m) name_order.ghosts.cmp ns → (least : Option Name) → from_last (with_name p) ns least ≡ lesser (find p ns) least
-  unfolding from_last
+  pub first_enough : (ns : List Name) → AreInOrder (λ (m : Name). m) name_order.ghosts.cmp ns → (least : Option Name) → after_each (with_name p) ns least ≡ lesser (find p ns) least
+  unfolding after_each
   first_enough [] h least = refl
   first_enough (n ∷ ns) h least = ap (with_name p n) (first_enough ns h.1 least) ∙ go (p n)
     where

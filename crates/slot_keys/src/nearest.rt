@@ -4,7 +4,7 @@ ghost use Rattle.std.specs.List.{find, filter};
 ghost use Rattle.resource_types.specs.Objects.{is_of};
 ghost use Rattle.resource_types.specs.Lookups.{state};
 ghost use Rattle.control_rules.specs.Slots.{names_of, holders, all_holders, names_for};
-ghost use Rattle.slot_keys.specs.Routed.{from_last};
+ghost use Rattle.slot_keys.specs.Routed.{after_each};
 ghost use Rattle.slot_keys.specs.Nexts.{name_as, name_cmp, comes_after, lesser, with_name};
 
 use json_tree::Text;
@@ -129,15 +129,13 @@ fn with_pins<'a>(
     revision: &'a Object,
     least: Option<NameParts<'a>>,
 ) -> Option<NameParts<'a>>
-    ensures { option_map name_as result ≡ from_last (with_name (comes_after cursor.now Controller.Route)) (holders revision.now) (option_map name_as least.entry) }
+    ensures { option_map name_as result ≡ after_each (with_name (comes_after cursor.now Controller.Route)) (holders revision.now) (option_map name_as least.entry) }
 {
     let space = &revision.key.name.space;
     let pins = revision.body.pins();
     let mut best = least;
-    let mut left = pins.len();
-    while left > 0 {
-        left -= 1;
-        let name = &pins[left];
+    for place in 0..pins.len() {
+        let name = &pins[place];
         best = with_pin(cursor, NameParts { space, name }, best);
     }
     best
@@ -145,14 +143,12 @@ fn with_pins<'a>(
 
 // The least pin of which the Route controller's key comes after the one that was stepped last.
 fn next_pin<'a>(store: &'a Store<Object>, cursor: &Option<SlotKey>) -> Option<NameParts<'a>>
-    ensures { option_map name_as result ≡ from_last (with_name (comes_after cursor.now Controller.Route)) (all_holders (filter (is_of Kind.Revision) (state store.now.entries))) None }
+    ensures { option_map name_as result ≡ after_each (with_name (comes_after cursor.now Controller.Route)) (all_holders (filter (is_of Kind.Revision) (state store.now.entries))) None }
 {
     let revisions = store.walk(Kind::Revision);
     let mut best = None;
-    let mut left = revisions.len();
-    while left > 0 {
-        left -= 1;
-        let revision = revisions.at(left);
+    for place in 0..revisions.len() {
+        let revision = revisions.at(place);
         if revision.is_of(Kind::Revision) {
             best = with_pins(cursor, revision, best);
         }
