@@ -77,6 +77,11 @@ def requests(count, objects):
 
 def run_on(words, made):
     """Runs the words on the stream of these requests, prints how long it took, and gives the status."""
+    return timed_on(words, made)[0]
+
+
+def timed_on(words, made):
+    """The same, which gives the seconds too."""
     with tempfile.TemporaryFile() as stream, tempfile.TemporaryFile() as replies, tempfile.NamedTemporaryFile() as memory:
         for one in made:
             stream.write(one)
@@ -92,7 +97,7 @@ def run_on(words, made):
     refused = output.count(b'"status":"Failure"')
     print(f"{len(made)} requests ({size / 1e6:.1f} MB in, {len(output) / 1e6:.1f} MB out, {refused} refused): "
           f"{took:.3f} s, {len(made) / took:,.0f} a second, {peak:.0f} MB at most")
-    return run.returncode
+    return run.returncode, took
 
 
 def main(program, count=20000, objects=200):

@@ -1,21 +1,13 @@
 -- The key that comes after another.
-use Rattle.std.proofs.Common.{◌≡◌, ℕ, zero, suc, ◌+◌, ◌≤◌, Bool, true, false, cond, List, [], ◌∷◌, ◌++◌, length, drop, Option, Some, None, refl, sym, ap, ◌∙◌, arith}
-use Rattle.std.specs.Prelude.{◌&&◌, map, slice_get}
-use Rattle.std.specs.List.{find, filter}
+use Rattle.std.proofs.Common.{◌≡◌, Bool, true, false, cond, List, [], ◌∷◌, ◌++◌, Option, Some, None, refl, sym, ap, ◌∙◌}
+use Rattle.std.specs.List.{find}
 use Rattle.std.specs.Option.{option_or}
-use Rattle.resource_types.specs.declared.names.Kind.{Kind}
 use Rattle.resource_types.specs.declared.names.Controller.{Controller}
 use Rattle.resource_types.specs.declared.names.Controller.TheVariants as controller
-use Rattle.resource_types.specs.declared.names.Name.{Name}
 use Rattle.resource_types.specs.declared.names.SlotKey.{SlotKey}
-use Rattle.resource_types.specs.declared.objects.Object.{Object}
-use Rattle.resource_types.specs.Objects.{is_of}
 use Rattle.resource_types.specs.Lookups.{State}
-use Rattle.resource_types.proofs.Exact.{left, right}
-use Rattle.resource_types.proofs.Lists.{drop_at}
-use Rattle.control_rules.specs.Slots.{names_of, slot_key, keys_for, all_keys}
+use Rattle.control_rules.specs.Slots.{keys_for, all_keys}
 use Rattle.control_rules.specs.Steps.{is_after, first_of, next_key}
-use Rattle.slot_keys.proofs.Keying.{drop_past}
 
 or_by : {X : Type 0} (b : Bool) (x : X) (o p : Option X) → cond b (Some x) (option_or o p) ≡ option_or (cond b (Some x) o) p
 or_by true x o p = refl
@@ -84,59 +76,6 @@ module _ (cursor : Option SlotKey) (st : State) where
 
         pub next_route : (key : Option SlotKey) → None ≡ at controller.Collector → key ≡ at controller.Route → key ≡ find (is_after cursor) (all_keys st)
         next_route key none e = e ∙ sym (nexts_4 ∙ ap (λ o. option_or o (at controller.Route)) (sym none))
-
--- ---- an object more
-
-module _ (cursor : Option SlotKey) (c : Controller) (k : Kind) (objects : State) (place : ℕ) (all : Option SlotKey) (so_far : find (is_after cursor) (map (slot_key c) (names_of k (drop place objects))) ≡ all) (o : Object) (at : slice_get objects place ≡ Some o) where
-  abbrev rest : State
-  rest = filter (is_of k) (drop (place + 1) objects)
-
-  abbrev found_in : State → Option SlotKey
-  found_in os = find (is_after cursor) (map (slot_key c) (map (λ (x : Object). x.key.name) os))
-
-  here : found_in (cond (is_of k o) (o ∷ rest) rest) ≡ all
-  here = sym (ap (λ os. find (is_after cursor) (map (slot_key c) (names_of k os))) (drop_at objects place o at)) ∙ so_far
-
-  -- it is of the kind, and comes after
-  pub object_found : (is_of k o && is_after cursor (slot_key c o.key.name)) ≡ true → Some (slot_key c o.key.name) ≡ all
-  object_found e =
-      let is = left (is_of k o) (is_after cursor (slot_key c o.key.name)) e in
-      let after = right (is_of k o) (is_after cursor (slot_key c o.key.name)) e in
-      sym (ap (λ b. cond b (Some (slot_key c o.key.name)) (found_in rest)) after) ∙ sym (ap (λ b. found_in (cond b (o ∷ rest) rest)) is) ∙ here
-
-  -- it isn't of the kind, or doesn't come after
-  pub object_other : (is_of k o && is_after cursor (slot_key c o.key.name)) ≡ false → found_in rest ≡ all
-  object_other e = go (is_of k o) refl (is_after cursor (slot_key c o.key.name)) refl e
-    where
-      go : (a : Bool) → is_of k o ≡ a → (b : Bool) → is_after cursor (slot_key c o.key.name) ≡ b → (a && b) ≡ false → found_in rest ≡ all
-      go false is b after f = sym (ap (λ t. found_in (cond t (o ∷ rest) rest)) is) ∙ here
-      go true is false after f = sym (ap (λ t. cond t (Some (slot_key c o.key.name)) (found_in rest)) after) ∙ sym (ap (λ t. found_in (cond t (o ∷ rest) rest)) is) ∙ here
-      go true is true after f = absurd cc
-
--- no object is left
-pub objects_past : (cursor : Option SlotKey) (c : Controller) (k : Kind) (objects : State) (place : ℕ) (all : Option SlotKey) → find (is_after cursor) (map (slot_key c) (names_of k (drop place objects))) ≡ all → length objects ≤ place → None ≡ all
-objects_past cursor c k objects place all e le = sym (ap (λ os. find (is_after cursor) (map (slot_key c) (names_of k os))) (drop_past objects place le)) ∙ e
-
--- ---- a name more
-
-module _ (cursor : Option SlotKey) (c : Controller) (names : List Name) (place : ℕ) (all : Option SlotKey) (so_far : find (is_after cursor) (map (slot_key c) (drop place names)) ≡ all) (n : Name) (at : slice_get names place ≡ Some n) where
-  name_here : cond (is_after cursor (slot_key c n)) (Some (slot_key c n)) (find (is_after cursor) (map (slot_key c) (drop (place + 1) names))) ≡ all
-  name_here = sym (ap (λ ns. find (is_after cursor) (map (slot_key c) ns)) (drop_at names place n at)) ∙ so_far
-
-  pub name_found : is_after cursor (slot_key c n) ≡ true → Some (slot_key c n) ≡ all
-  name_found after = sym (ap (λ b. cond b (Some (slot_key c n)) (find (is_after cursor) (map (slot_key c) (drop (place + 1) names)))) after) ∙ name_here
-
-  pub name_before : is_after cursor (slot_key c n) ≡ false → find (is_after cursor) (map (slot_key c) (drop (place + 1) names)) ≡ all
-  name_before after = sym (ap (λ b. cond b (Some (slot_key c n)) (find (is_after cursor) (map (slot_key c) (drop (place + 1) names)))) after) ∙ name_here
-
-past_names : (names : List Name) (place : ℕ) → length names ≤ place → drop place names ≡ []
-past_names [] zero le = refl
-past_names [] (suc place) le = refl
-past_names (n ∷ names) zero le = absurd (omega (arith, le))
-past_names (n ∷ names) (suc place) le = let l : length names ≤ place = omega (arith, le) in past_names names place l
-
-pub names_past : (cursor : Option SlotKey) (c : Controller) (names : List Name) (place : ℕ) (all : Option SlotKey) → find (is_after cursor) (map (slot_key c) (drop place names)) ≡ all → length names ≤ place → None ≡ all
-names_past cursor c names place all e le = sym (ap (λ ns. find (is_after cursor) (map (slot_key c) ns)) (past_names names place le)) ∙ e
 
 -- what is no key is none
 pub none_if : (o at : Option SlotKey) → ((key : SlotKey) → o ≡ Some key → ⊥) → o ≡ at → None ≡ at

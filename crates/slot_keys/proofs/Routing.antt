@@ -1,5 +1,5 @@
--- Names of the Route controller, put in order one after another from the last.
-use Rattle.std.proofs.Common.{◌≡◌, ℕ, zero, suc, ◌+◌, ◌-◌, ◌<◌, ◌≤◌, Bool, true, false, ◌&&◌, cond, List, [], ◌∷◌, ◌++◌, length, drop, Some, Ordering, refl, sym, ap, ◌∙◌, arith}
+-- A step for each name of the Route controller, one after another; so names are put in order.
+use Rattle.std.proofs.Common.{◌≡◌, ℕ, zero, suc, ◌+◌, ◌≤◌, Bool, true, false, ◌&&◌, cond, List, [], ◌∷◌, ◌++◌, length, drop, Some, Ordering, refl, sym, ap, ◌∙◌, arith}
 use Rattle.std.specs.Prelude.{map, slice_get}
 use Rattle.std.specs.List.{filter}
 use Rattle.std.specs.declared.cmp.Ordering.TheVariants.{Less, Equal, Greater}
@@ -16,8 +16,9 @@ use Rattle.resource_types.proofs.Lists.{drop_at}
 use Rattle.control_rules.specs.Standing.{beside}
 use Rattle.control_rules.specs.Slots.{names_of, holders, all_holders, in_order, names_for}
 use Rattle.slot_keys.specs.declared.routed.Routed.{Routed}
-use Rattle.slot_keys.specs.Routed.{put_name, put_names, names_in}
-use Rattle.slot_keys.proofs.Keying.{names_kind}
+use Rattle.slot_keys.specs.Routed.{after_each, put_name, put_names, names_in}
+use Rattle.slot_keys.proofs.Keying.{names_kind, drop_past}
+use Rattle.slot_keys.proofs.Swaps.{put_swaps}
 
 -- ---- rows
 
@@ -32,107 +33,14 @@ pub names-put : (new : Routed) (rows : List Routed) → names_in (store.put (λ 
 names-put new [] = refl
 names-put new (row ∷ rows) = put_by (name_order.ghosts.cmp new.name row.name) new row rows (store.put (λ (r : Routed). r.name) name_order.ghosts.cmp new rows) (put_name new.name (names_in rows)) (names-put new rows)
 
--- ---- one after another
+-- ---- what is left of a list
 
-pub put-append : (xs ys ms : List Name) → put_names (xs ++ ys) ms ≡ put_names xs (put_names ys ms)
-unfolding put_names
-put-append [] ys ms = refl
-put-append (x ∷ xs) ys ms = ap (put_name x) (put-append xs ys ms)
-
-pub put-order : (xs : List Name) → put_names xs [] ≡ in_order xs
-unfolding put_names in_order
-put-order [] = refl
-put-order (x ∷ xs) = ap (put_name x) (put-order xs)
-
--- all names of the Route controller
-pub names_routed : (st : State) (a b c : List Name) → a ≡ put_names (all_holders (filter (is_of kind.Revision) st)) [] → b ≡ put_names (names_of kind.Table st) a
-    → c ≡ put_names (names_of kind.Route st) b → c ≡ names_for controller.Route st
-unfolding names_for
-names_routed st a b c p q r =
-    let pins = all_holders (filter (is_of kind.Revision) st) in
-    r ∙ ap (put_names (names_of kind.Route st)) (q ∙ ap (put_names (names_of kind.Table st)) p)
-    ∙ sym (ap (put_names (names_of kind.Route st)) (put-append (names_of kind.Table st) pins []))
-    ∙ sym (put-append (names_of kind.Route st) (names_of kind.Table st ++ pins) [])
-    ∙ put-order (names_of kind.Route st ++ (names_of kind.Table st ++ pins))
-
--- ---- an object more
-
--- where nothing is left
-nothing_left : {X : Type 0} (xs : List X) → drop (length xs) xs ≡ []
-nothing_left [] = refl
-nothing_left (x ∷ xs) = nothing_left xs
-
-none_more : (left : ℕ) → left ≤ 0 → left ≡ 0
-none_more left le = omega (arith, le)
-
--- the place before the last
-before_last : (left : ℕ) → 0 < left → left ≡ left - 1 + 1
-before_last left some = omega (arith, some)
-
-pub kind_init : (k : Kind) (objects : State) (after : List Name) (left : ℕ) → left ≡ length objects → after ≡ put_names (names_of k (drop left objects)) after
-unfolding put_names
-kind_init k objects after left e = sym (ap (λ os. put_names (names_of k os) after) (ap (λ n. drop n objects) e ∙ nothing_left objects))
-
-pub kind_whole : (k : Kind) (objects st : State) (names after : List Name) (left : ℕ) → left ≤ 0 → objects ≡ of_kind k st → names ≡ put_names (names_of k (drop left objects)) after
-    → names ≡ put_names (names_of k st) after
-kind_whole k objects st names after left none walk e =
-    e ∙ ap (λ n. put_names (names_of k (drop n objects)) after) (none_more left none) ∙ ap (λ os. put_names (names_of k os) after) walk ∙ ap (λ ns. put_names ns after) (names_kind k st)
-
-module _ (k : Kind) (objects : State) (before after : List Name) (left : ℕ) (some : 0 < left) (so_far : before ≡ put_names (names_of k (drop left objects)) after) (o : Object) (at : slice_get objects (left - 1) ≡ Some o) where
-  abbrev rest_of : State
-  rest_of = filter (is_of k) (drop (left - 1 + 1) objects)
-
-  names_at : names_of k (drop (left - 1) objects) ≡ map (λ (x : Object). x.key.name) (cond (is_of k o) (o ∷ rest_of) rest_of)
-  names_at = ap (names_of k) (drop_at objects (left - 1) o at)
-
-  far : before ≡ put_names (map (λ (x : Object). x.key.name) rest_of) after
-  far = so_far ∙ ap (λ n. put_names (names_of k (drop n objects)) after) (before_last left some)
-
-  -- of the kind, or not
-  pub kind_more : (names : List Name) → is_of k o ≡ true → names ≡ put_name o.key.name before → names ≡ put_names (names_of k (drop (left - 1) objects)) after
-  unfolding put_names
-  kind_more names is e =
-      e ∙ ap (put_name o.key.name) far ∙ sym (ap (λ ns. put_names ns after) (names_at ∙ ap (λ b. map (λ (x : Object). x.key.name) (cond b (o ∷ rest_of) rest_of)) is))
-
-  pub kind_less : is_of k o ≡ false → before ≡ put_names (names_of k (drop (left - 1) objects)) after
-  kind_less is = far ∙ sym (ap (λ ns. put_names ns after) (names_at ∙ ap (λ b. map (λ (x : Object). x.key.name) (cond b (o ∷ rest_of) rest_of)) is))
-
--- ---- a pin more
-
-pub pins_init : (n : Name) (pins : List (List ℕ)) (after : List Name) → after ≡ put_names (map (beside n) (drop (length pins) pins)) after
-unfolding put_names
-pins_init n pins after = sym (ap (λ ps. put_names (map (beside n) ps) after) (nothing_left pins))
-
-pub pin_more : (n : Name) (pins : List (List ℕ)) (before after names : List Name) (left : ℕ) (pin : List ℕ) → 0 < left → before ≡ put_names (map (beside n) (drop left pins)) after
-    → slice_get pins (left - 1) ≡ Some pin → names ≡ put_name (beside n pin) before → names ≡ put_names (map (beside n) (drop (left - 1) pins)) after
-unfolding put_names
-pin_more n pins before after names left pin some so_far at e =
-    e ∙ ap (put_name (beside n pin)) (so_far ∙ ap (λ i. put_names (map (beside n) (drop i pins)) after) (before_last left some))
-    ∙ sym (ap (λ ps. put_names (map (beside n) ps) after) (drop_at pins (left - 1) pin at))
-
--- ---- a Revision more
-
-pub holders_init : (objects : State) (after : List Name) (left : ℕ) → left ≡ length objects → after ≡ put_names (all_holders (filter (is_of kind.Revision) (drop left objects))) after
-unfolding put_names
-holders_init objects after left e = sym (ap (λ os. put_names (all_holders (filter (is_of kind.Revision) os)) after) (ap (λ n. drop n objects) e ∙ nothing_left objects))
-
-module _ (objects : State) (before after : List Name) (left : ℕ) (some : 0 < left) (so_far : before ≡ put_names (all_holders (filter (is_of kind.Revision) (drop left objects))) after) (o : Object) (at : slice_get objects (left - 1) ≡ Some o) where
-  abbrev rest : State
-  rest = filter (is_of kind.Revision) (drop (left - 1 + 1) objects)
-
-  holders_at : all_holders (filter (is_of kind.Revision) (drop (left - 1) objects)) ≡ all_holders (cond (is_of kind.Revision o) (o ∷ rest) rest)
-  holders_at = ap (λ os. all_holders (filter (is_of kind.Revision) os)) (drop_at objects (left - 1) o at)
-
-  held : before ≡ put_names (all_holders rest) after
-  held = so_far ∙ ap (λ n. put_names (all_holders (filter (is_of kind.Revision) (drop n objects))) after) (before_last left some)
-
-  pub holders_more : (names : List Name) → is_of kind.Revision o ≡ true → names ≡ put_names (holders o) before → names ≡ put_names (all_holders (filter (is_of kind.Revision) (drop (left - 1) objects))) after
-  holders_more names is e =
-      e ∙ ap (put_names (holders o)) held ∙ sym (put-append (holders o) (all_holders rest) after)
-      ∙ sym (ap (λ ns. put_names ns after) (holders_at ∙ ap (λ b. all_holders (cond b (o ∷ rest) rest)) is))
-
-  pub holders_less : is_of kind.Revision o ≡ false → before ≡ put_names (all_holders (filter (is_of kind.Revision) (drop (left - 1) objects))) after
-  holders_less is = held ∙ sym (ap (λ ns. put_names ns after) (holders_at ∙ ap (λ b. all_holders (cond b (o ∷ rest) rest)) is))
+-- no pin is left
+nothing_past : (pins : List (List ℕ)) (n : ℕ) → length pins ≤ n → drop n pins ≡ []
+nothing_past [] zero le = refl
+nothing_past [] (suc n) le = refl
+nothing_past (p ∷ pins) zero le = absurd (omega (arith, le))
+nothing_past (p ∷ pins) (suc n) le = let le' : length pins ≤ n = omega (arith, le) in nothing_past pins n le'
 
 -- the Revisions among the objects of their kind are those among all
 filter_by : (o : Object) (one other : State) → filter (is_of kind.Revision) one ≡ filter (is_of kind.Revision) other → (a b : Bool) → is_of kind.Revision o ≡ (a && b)
@@ -144,11 +52,114 @@ revisions_kind : (st : State) → filter (is_of kind.Revision) (of_kind kind.Rev
 revisions_kind [] = refl
 revisions_kind (o ∷ st) = filter_by o (of_kind kind.Revision st) st (revisions_kind st) (same_kind o.key.kind kind.Revision) (same_kind (kind_of_body o.body) kind.Revision) refl
 
-pub holders_whole : (objects st : State) (names after : List Name) (left : ℕ) → left ≤ 0 → objects ≡ of_kind kind.Revision st → names ≡ put_names (all_holders (filter (is_of kind.Revision) (drop left objects))) after
-    → names ≡ put_names (all_holders (filter (is_of kind.Revision) st)) after
-holders_whole objects st names after left none walk e =
-    e ∙ ap (λ n. put_names (all_holders (filter (is_of kind.Revision) (drop n objects))) after) (none_more left none)
-    ∙ ap (λ os. put_names (all_holders (filter (is_of kind.Revision) os)) after) walk ∙ ap (λ os. put_names (all_holders os) after) (revisions_kind st)
+-- ---- steps for names
+
+pub steps-append : {A : Type 0} (step : Name → A → A) (xs ys : List Name) (a : A) → after_each step (xs ++ ys) a ≡ after_each step xs (after_each step ys a)
+unfolding after_each
+steps-append step [] ys a = refl
+steps-append step (x ∷ xs) ys a = ap (step x) (steps-append step xs ys a)
+
+-- steps that may be swapped may be taken in any order
+module _ {A : Type 0} (step : Name → A → A) (swaps : (n m : Name) (a : A) → step n (step m a) ≡ step m (step n a)) where
+  step_first : (n : Name) (ns : List Name) (a : A) → after_each step ns (step n a) ≡ step n (after_each step ns a)
+  unfolding after_each
+  step_first n [] a = refl
+  step_first n (m ∷ ns) a = ap (step m) (step_first n ns a) ∙ swaps m n (after_each step ns a)
+
+  pub steps_swap : (xs ys : List Name) (a : A) → after_each step xs (after_each step ys a) ≡ after_each step ys (after_each step xs a)
+  unfolding after_each
+  steps_swap [] ys a = refl
+  steps_swap (x ∷ xs) ys a = ap (step x) (steps_swap xs ys a) ∙ sym (step_first x ys (after_each step xs a))
+
+  -- ---- an object more
+
+  pub kind_init : (k : Kind) (objects st : State) (a : A) → objects ≡ of_kind k st → after_each step (names_of k objects) a ≡ after_each step (names_of k st) a
+  kind_init k objects st a walk = ap (λ os. after_each step (names_of k os) a) walk ∙ ap (λ ns. after_each step ns a) (names_kind k st)
+
+  module _ (k : Kind) (objects : State) (place : ℕ) (before all : A) (so_far : after_each step (names_of k (drop place objects)) before ≡ all) where
+    module _ (o : Object) (at : slice_get objects place ≡ Some o) where
+      abbrev rest_of : State
+      rest_of = filter (is_of k) (drop (place + 1) objects)
+
+      names_here : after_each step (map (λ (x : Object). x.key.name) (cond (is_of k o) (o ∷ rest_of) rest_of)) before ≡ all
+      names_here = sym (ap (λ os. after_each step (names_of k os) before) (drop_at objects place o at)) ∙ so_far
+
+      -- of the kind, or not
+      pub kind_more : (now : A) → is_of k o ≡ true → now ≡ step o.key.name before → after_each step (names_of k (drop (place + 1) objects)) now ≡ all
+      unfolding after_each
+      kind_more now is e =
+          ap (after_each step (names_of k (drop (place + 1) objects))) e ∙ step_first o.key.name (names_of k (drop (place + 1) objects)) before
+          ∙ sym (ap (λ b. after_each step (map (λ (x : Object). x.key.name) (cond b (o ∷ rest_of) rest_of)) before) is) ∙ names_here
+
+      pub kind_less : is_of k o ≡ false → after_each step (names_of k (drop (place + 1) objects)) before ≡ all
+      kind_less is = sym (ap (λ b. after_each step (map (λ (x : Object). x.key.name) (cond b (o ∷ rest_of) rest_of)) before) is) ∙ names_here
+
+    -- none is left
+    pub kind_whole : length objects ≤ place → before ≡ all
+    unfolding after_each
+    kind_whole le = sym (ap (λ os. after_each step (names_of k os) before) (drop_past objects place le)) ∙ so_far
+
+  -- ---- a pin more
+
+  module _ (n : Name) (pins : List (List ℕ)) (place : ℕ) (before all : A) (so_far : after_each step (map (beside n) (drop place pins)) before ≡ all) where
+    pub pin_more : (pin : List ℕ) → slice_get pins place ≡ Some pin → (now : A) → now ≡ step (beside n pin) before → after_each step (map (beside n) (drop (place + 1) pins)) now ≡ all
+    unfolding after_each
+    pin_more pin at now e =
+        ap (after_each step (map (beside n) (drop (place + 1) pins))) e ∙ step_first (beside n pin) (map (beside n) (drop (place + 1) pins)) before
+        ∙ sym (ap (λ ps. after_each step (map (beside n) ps) before) (drop_at pins place pin at)) ∙ so_far
+
+    pub pins_whole : length pins ≤ place → before ≡ all
+    unfolding after_each
+    pins_whole le = sym (ap (λ ps. after_each step (map (beside n) ps) before) (nothing_past pins place le)) ∙ so_far
+
+  -- ---- a Revision more
+
+  pub holders_init : (objects st : State) (a : A) → objects ≡ of_kind kind.Revision st
+      → after_each step (all_holders (filter (is_of kind.Revision) objects)) a ≡ after_each step (all_holders (filter (is_of kind.Revision) st)) a
+  holders_init objects st a walk =
+      ap (λ os. after_each step (all_holders (filter (is_of kind.Revision) os)) a) walk ∙ ap (λ os. after_each step (all_holders os) a) (revisions_kind st)
+
+  module _ (objects : State) (place : ℕ) (before all : A) (so_far : after_each step (all_holders (filter (is_of kind.Revision) (drop place objects))) before ≡ all) where
+    module _ (o : Object) (at : slice_get objects place ≡ Some o) where
+      abbrev rest : State
+      rest = filter (is_of kind.Revision) (drop (place + 1) objects)
+
+      holders_here : after_each step (all_holders (cond (is_of kind.Revision o) (o ∷ rest) rest)) before ≡ all
+      holders_here = sym (ap (λ os. after_each step (all_holders (filter (is_of kind.Revision) os)) before) (drop_at objects place o at)) ∙ so_far
+
+      pub holders_more : (now : A) → is_of kind.Revision o ≡ true → now ≡ after_each step (holders o) before → after_each step (all_holders (filter (is_of kind.Revision) (drop (place + 1) objects))) now ≡ all
+      holders_more now is e =
+          ap (after_each step (all_holders rest)) e ∙ steps_swap (all_holders rest) (holders o) before ∙ sym (steps-append step (holders o) (all_holders rest) before)
+          ∙ sym (ap (λ b. after_each step (all_holders (cond b (o ∷ rest) rest)) before) is) ∙ holders_here
+
+      pub holders_less : is_of kind.Revision o ≡ false → after_each step (all_holders (filter (is_of kind.Revision) (drop (place + 1) objects))) before ≡ all
+      holders_less is = sym (ap (λ b. after_each step (all_holders (cond b (o ∷ rest) rest)) before) is) ∙ holders_here
+
+    pub holders_whole : length objects ≤ place → before ≡ all
+    unfolding after_each
+    holders_whole le = sym (ap (λ os. after_each step (all_holders (filter (is_of kind.Revision) os)) before) (drop_past objects place le)) ∙ so_far
+
+-- ---- all names
+
+pub put-order : (xs : List Name) → put_names xs [] ≡ in_order xs
+unfolding after_each in_order
+put-order [] = refl
+put-order (x ∷ xs) = ap (put_name x) (put-order xs)
+
+-- the names of the Route controller, those of Routes first
+pub names_routed : (st : State) (a b c : List Name) → a ≡ put_names (names_of kind.Route st) [] → b ≡ put_names (names_of kind.Table st) a
+    → c ≡ put_names (all_holders (filter (is_of kind.Revision) st)) b → c ≡ names_for controller.Route st
+unfolding names_for
+names_routed st a b c p q r =
+    let pins = all_holders (filter (is_of kind.Revision) st) in
+    let routes = names_of kind.Route st in
+    let tables = names_of kind.Table st in
+    r ∙ ap (put_names pins) (q ∙ ap (put_names tables) p ∙ steps_swap put_name put_swaps tables routes [])
+    ∙ steps_swap put_name put_swaps pins routes (put_names tables [])
+    ∙ ap (put_names routes) (steps_swap put_name put_swaps pins tables [])
+    ∙ ap (put_names routes) (sym (steps-append put_name tables pins []))
+    ∙ sym (steps-append put_name routes (tables ++ pins) [])
+    ∙ put-order (routes ++ (tables ++ pins))
 
 -- ---- a row more
 

@@ -7,6 +7,7 @@
 
 mod keys;
 mod names;
+mod nearest;
 mod next;
 mod routed;
 

@@ -1,97 +1,30 @@
 //! The key that the cursor goes to.
-ghost use Rattle.std.specs.Prelude.{◌≡◌, ◌&&◌, map, option_map, IfOk};
+ghost use Rattle.std.specs.Prelude.{◌≡◌, IfOk};
 ghost use Rattle.std.specs.List.{find};
-ghost use Rattle.std.specs.Option.{option_copied};
-ghost use Rattle.resource_types.specs.Objects.{is_of};
 ghost use Rattle.resource_types.specs.Lookups.{state};
-ghost use Rattle.control_rules.specs.Slots.{names_of, slot_key, keys_for, all_keys};
+ghost use Rattle.control_rules.specs.Slots.{slot_key, keys_for, all_keys};
 ghost use Rattle.control_rules.specs.Steps.{is_after, next_key};
+ghost use Rattle.slot_keys.specs.Nexts.{name_as};
 
-use crate::routed::routed_names;
+use crate::nearest::{NameParts, next_name};
 use json_tree::Copied;
-use resource_types::{Controller, Kind, Name, Object, SlotKey};
+use resource_types::{Controller, Name, Object, SlotKey};
 use std::alloc::{AllocError, Global};
-use std::cmp::Ordering;
 use version_store::Store;
 
-// Whether the controller's key of the name comes after the one that was stepped last.
-fn is_behind(cursor: &Option<SlotKey>, controller: Controller, name: &Name) -> bool
-    ensures { result ≡ is_after cursor.now (slot_key controller name.now) }
-{
-    match cursor {
-        Some(last) => match last.controller.cmp(&controller) {
-            Ordering::Less => true,
-            Ordering::Equal => last.name.cmp(name).is_lt(),
-            Ordering::Greater => false,
-        },
-        None => true,
-    }
-}
-
-// Whether the object is of the kind, and the controller's key of it comes after the one that was stepped last.
-fn is_next(cursor: &Option<SlotKey>, controller: Controller, kind: Kind, object: &Object) -> bool
-    ensures { result ≡ (is_of kind object.now && is_after cursor.now (slot_key controller object.now.key.name)) }
-{
-    object.is_of(kind) && is_behind(cursor, controller, &object.key.name)
-}
-
-// The first name of a kind whose key comes after the one that was stepped last.
-fn next_of_kind<'a>(
-    store: &'a Store<Object>,
-    cursor: &Option<SlotKey>,
-    controller: Controller,
-    kind: Kind,
-) -> Option<&'a Name>
-    ensures { option_map (slot_key controller) (option_copied result) ≡ find (is_after cursor.now) (map (slot_key controller) (names_of kind (state store.now.entries))) }
-{
-    let objects = store.walk(kind);
-    for place in 0..objects.len() {
-        let object = objects.at(place);
-        if is_next(cursor, controller, kind, object) {
-            return Some(&object.key.name);
-        }
-    }
-    None
-}
-
 // The controller's key of a name.
-fn key_of(
-    alloc: Global,
-    controller: Controller,
-    name: Option<&Name>,
-) -> Result<Option<SlotKey>, AllocError>
-    ensures { IfOk result (λ key. key ≡ option_map (slot_key controller) (option_copied name.entry)) }
+fn key_of(alloc: Global, controller: Controller, name: NameParts) -> Result<SlotKey, AllocError>
+    ensures { IfOk result (λ key. key ≡ slot_key controller (name_as name.entry)) }
 {
-    match name {
-        Some(name) => Ok(Some(SlotKey {
-            controller,
-            name: name.copy(alloc)?,
-        })),
-        None => Ok(None),
-    }
+    let space = name.space.copy(alloc)?;
+    let name = name.name.copy(alloc)?;
+    Ok(SlotKey {
+        controller,
+        name: Name { space, name },
+    })
 }
 
-// The first key of the Route controller that comes after the one that was stepped last.
-fn next_of_routes(
-    alloc: Global,
-    store: &Store<Object>,
-    cursor: &Option<SlotKey>,
-) -> Result<Option<SlotKey>, AllocError>
-    ensures { IfOk result (λ key. key ≡ find (is_after cursor.now) (keys_for Controller.Route (state store.now.entries))) }
-{
-    let names = routed_names(alloc, store)?;
-    let rows = names.rows();
-    for place in 0..rows.len() {
-        let name = &rows[place].name;
-        if is_behind(cursor, Controller::Route, name) {
-            return Ok(key_of(alloc, Controller::Route, Some(name))?);
-        }
-    }
-    Ok(None)
-}
-
-// The first key of the controller that comes after the one that was stepped last.
-#[tactic(auto, unfolding(control_rules::specs::Slots::names_for))]
+// The first key of the controller that comes after the one that was stepped last. The name is copied here, and no other.
 fn next_of(
     alloc: Global,
     store: &Store<Object>,
@@ -100,28 +33,9 @@ fn next_of(
 ) -> Result<Option<SlotKey>, AllocError>
     ensures { IfOk result (λ key. key ≡ find (is_after cursor.now) (keys_for controller (state store.now.entries))) }
 {
-    match controller {
-        Controller::Service => Ok(key_of(
-            alloc,
-            controller,
-            next_of_kind(store, cursor, controller, Kind::Service),
-        )?),
-        Controller::Configuration => Ok(key_of(
-            alloc,
-            controller,
-            next_of_kind(store, cursor, controller, Kind::Configuration),
-        )?),
-        Controller::Revision => Ok(key_of(
-            alloc,
-            controller,
-            next_of_kind(store, cursor, controller, Kind::Revision),
-        )?),
-        Controller::Collector => Ok(key_of(
-            alloc,
-            controller,
-            next_of_kind(store, cursor, controller, Kind::Configuration),
-        )?),
-        Controller::Route => Ok(next_of_routes(alloc, store, cursor)?),
+    match next_name(store, cursor, controller) {
+        Some(name) => Ok(Some(key_of(alloc, controller, name)?)),
+        None => Ok(None),
     }
 }
 

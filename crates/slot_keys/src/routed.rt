@@ -49,7 +49,7 @@ fn put_name(
     Ok(())
 }
 
-// Puts the names of the objects of a kind in, the last one first.
+// Puts the names of the objects of a kind in.
 fn put_kind(
     alloc: Global,
     names: &mut SlotTable<Routed>,
@@ -59,10 +59,8 @@ fn put_kind(
     ensures { OnOk result (names_in names.new ≡ put_names (names_of kind (state store.now.entries)) (names_in names.old)) }
 {
     let objects = store.walk(kind);
-    let mut left = objects.len();
-    while left > 0 {
-        left -= 1;
-        let object = objects.at(left);
+    for place in 0..objects.len() {
+        let object = objects.at(place);
         if object.is_of(kind) {
             put_name(alloc, names, &object.key.name.space, &object.key.name.name)?;
         }
@@ -70,7 +68,7 @@ fn put_kind(
     Ok(())
 }
 
-// Puts the names of the Routes that hold the Revision in, the last one first.
+// Puts the names of the Routes that hold the Revision in.
 fn put_holders(
     alloc: Global,
     names: &mut SlotTable<Routed>,
@@ -79,10 +77,8 @@ fn put_holders(
     ensures { OnOk result (names_in names.new ≡ put_names (holders revision.now) (names_in names.old)) }
 {
     let pins = revision.body.pins();
-    let mut left = pins.len();
-    while left > 0 {
-        left -= 1;
-        put_name(alloc, names, &revision.key.name.space, &pins[left])?;
+    for place in 0..pins.len() {
+        put_name(alloc, names, &revision.key.name.space, &pins[place])?;
     }
     Ok(())
 }
@@ -96,10 +92,8 @@ fn put_all_holders(
     ensures { OnOk result (names_in names.new ≡ put_names (all_holders (filter (is_of Kind.Revision) (state store.now.entries))) (names_in names.old)) }
 {
     let revisions = store.walk(Kind::Revision);
-    let mut left = revisions.len();
-    while left > 0 {
-        left -= 1;
-        let revision = revisions.at(left);
+    for place in 0..revisions.len() {
+        let revision = revisions.at(place);
         if revision.is_of(Kind::Revision) {
             put_holders(alloc, names, revision)?;
         }
@@ -108,12 +102,15 @@ fn put_all_holders(
 }
 
 /// The names that the Route controller works on.
+///
+/// Those of Routes come first: they stand in order, so each goes behind the ones that are in, and most Tables and pins have
+/// the name of one of them.
 pub fn routed_names(alloc: Global, store: &Store<Object>) -> Result<SlotTable<Routed>, AllocError>
     ensures { IfOk result (λ names. names_in names ≡ names_for Controller.Route (state store.now.entries)) }
 {
     let mut names = SlotTable::new(alloc);
-    put_all_holders(alloc, &mut names, store)?;
-    put_kind(alloc, &mut names, store, Kind::Table)?;
     put_kind(alloc, &mut names, store, Kind::Route)?;
+    put_kind(alloc, &mut names, store, Kind::Table)?;
+    put_all_holders(alloc, &mut names, store)?;
     Ok(names)
 }
