@@ -7,8 +7,7 @@ use crate::texts::{add_entries, add_line};
 use std::alloc::{AllocError, Global};
 use step_scheduler::Plane;
 
-/// The journal of a plane as text, with its settings and its moment in the first line. The time that it takes is that of the bytes written.
-#[tactic(auto, unfolding(crate::specs::Texts::journal_text))]
+/// The journal of a plane as text, with its settings and its moment in the first line. Each entry is read once.
 pub fn export(alloc: Global, plane: &Plane) -> Result<Vec<u8>, AllocError>
     ensures text { IfOk result (λ text. text.items ≡ journal_text plane.now.plane) }
 {
