@@ -7,7 +7,7 @@ use Rattle.command_words.specs.Settings.{IsReplay}
 use Rattle.command_words.specs.Serving.{IsServe}
 use Rattle.command_words.specs.Picking.{IsNumber, IsPick}
 use Rattle.command_words.specs.declared.command.Command.{Command}
-use Rattle.command_words.specs.declared.command.Command.TheVariants.{Replay, Serve, Check, Generate, Drill, Pick}
+use Rattle.command_words.specs.declared.command.Command.TheVariants.{Replay, Serve, Check, Generate, Drill, Pick, Export}
 use Rattle.command_words.specs.declared.settings.Options.{Options}
 use Rattle.command_words.specs.declared.serving.Serving.{Serving}
 use Rattle.command_words.specs.declared.picking.Picking.{Picking}
@@ -20,6 +20,7 @@ name_of Check = codes "check"
 name_of (Generate count) = codes "gen"
 name_of (Drill count) = codes "drill"
 name_of (Pick picking) = codes "pick"
+name_of Export = codes "export"
 
 named : (word : Word) (words : List Word) (command : Command) → IsCommand (word ∷ words) command → word ≡ name_of command
 named word words (Replay options) is = is.0
@@ -28,6 +29,7 @@ named word words Check is = is.0
 named word words (Generate count) is = is.0
 named word words (Drill count) is = is.0
 named word words (Pick picking) is = is.0
+named word words Export is = is.0
 
 -- two words with different first letters aren't one
 apart : (a b : ℕ) → (a ≡ b → ⊥) → Some a ≡ Some b → ⊥
@@ -56,6 +58,7 @@ module _ (words : List Word) (first : Word) (head : slice_get words 0 ≡ Some f
       go (Generate count) is same = cc
       go (Drill count) is same = cc
       go (Pick picking) is same = cc
+      go Export is same = apart 114 101 (λ e. omega (arith, e)) (ap (λ w. slice_get w 0) same)
 
   pub no_serve : first ≡ codes "serve" → ((serving : Serving) → ¬ (IsServe (drop 1 words) serving)) → IsOutside words
   no_serve name none = λ command is. go command is (sym name ∙ name_is command is)
@@ -71,6 +74,7 @@ module _ (words : List Word) (first : Word) (head : slice_get words 0 ≡ Some f
       go (Generate count) is same = cc
       go (Drill count) is same = apart 115 100 (λ e. omega (arith, e)) (ap (λ w. slice_get w 0) same)
       go (Pick picking) is same = cc
+      go Export is same = cc
 
   pub no_gen : first ≡ codes "gen" → ((number : ℕ) → ¬ (IsNumber (drop 1 words) number)) → IsOutside words
   no_gen name none = λ command is. go command is (sym name ∙ name_is command is)
@@ -86,6 +90,7 @@ module _ (words : List Word) (first : Word) (head : slice_get words 0 ≡ Some f
       go (Generate count) is same = none count (behind words count is)
       go (Drill count) is same = cc
       go (Pick picking) is same = cc
+      go Export is same = cc
 
   pub no_drill : first ≡ codes "drill" → ((number : ℕ) → ¬ (IsNumber (drop 1 words) number)) → IsOutside words
   no_drill name none = λ command is. go command is (sym name ∙ name_is command is)
@@ -101,6 +106,7 @@ module _ (words : List Word) (first : Word) (head : slice_get words 0 ≡ Some f
       go (Generate count) is same = cc
       go (Drill count) is same = none count (behind words count is)
       go (Pick picking) is same = cc
+      go Export is same = cc
 
   pub no_pick : first ≡ codes "pick" → ((picking : Picking) → ¬ (IsPick (drop 1 words) picking)) → IsOutside words
   no_pick name none = λ command is. go command is (sym name ∙ name_is command is)
@@ -116,3 +122,36 @@ module _ (words : List Word) (first : Word) (head : slice_get words 0 ≡ Some f
       go (Generate count) is same = cc
       go (Drill count) is same = cc
       go (Pick picking) is same = none picking (behind words picking is)
+      go Export is same = cc
+
+  pub no_check : first ≡ codes "check" → ¬ (drop 1 words ≡ []) → IsOutside words
+  no_check name none = λ command is. go command is (sym name ∙ name_is command is)
+    where
+      behind : (ws : List Word) → IsCommand ws Check → drop 1 ws ≡ []
+      behind [] i = absurd i
+      behind (w ∷ ws) i = i.1
+
+      go : (command : Command) → IsCommand words command → codes "check" ≡ name_of command → ⊥
+      go (Replay options) is same = cc
+      go (Serve serving) is same = apart 99 115 (λ e. omega (arith, e)) (ap (λ w. slice_get w 0) same)
+      go Check is same = none (behind words is)
+      go (Generate count) is same = cc
+      go (Drill count) is same = apart 99 100 (λ e. omega (arith, e)) (ap (λ w. slice_get w 0) same)
+      go (Pick picking) is same = cc
+      go Export is same = cc
+
+  pub no_export : first ≡ codes "export" → ¬ (drop 1 words ≡ []) → IsOutside words
+  no_export name none = λ command is. go command is (sym name ∙ name_is command is)
+    where
+      behind : (ws : List Word) → IsCommand ws Export → drop 1 ws ≡ []
+      behind [] i = absurd i
+      behind (w ∷ ws) i = i.1
+
+      go : (command : Command) → IsCommand words command → codes "export" ≡ name_of command → ⊥
+      go (Replay options) is same = apart 101 114 (λ e. omega (arith, e)) (ap (λ w. slice_get w 0) same)
+      go (Serve serving) is same = cc
+      go Check is same = cc
+      go (Generate count) is same = cc
+      go (Drill count) is same = cc
+      go (Pick picking) is same = cc
+      go Export is same = none (behind words is)

@@ -8,7 +8,7 @@ use Rattle.command_words.specs.Picking.{picking_of}
 use Rattle.command_words.specs.Grammar.{IsCommand, IsWithin}
 use Rattle.serve_names.specs.Counts.{count_of}
 use Rattle.command_words.specs.declared.command.Command.{Command}
-use Rattle.command_words.specs.declared.command.Command.TheVariants.{Replay, Serve, Check, Generate, Drill, Pick}
+use Rattle.command_words.specs.declared.command.Command.TheVariants.{Replay, Serve, Check, Generate, Drill, Pick, Export}
 use Rattle.command_words.specs.declared.serving.Serving.{Serving}
 use Rattle.command_words.specs.declared.picking.Picking.{Picking}
 
@@ -71,3 +71,4 @@ command_within (word ∷ words) Check is = tt
 command_within (word ∷ words) (Generate count) is = count_within 1 500 is.1.0 count is.1.2
 command_within (word ∷ words) (Drill count) is = count_within 1 500 is.1.0 count is.1.2
 command_within (word ∷ words) (Pick picking) is = picking_within (λ n. value_of n is.1.0) picking is.1.2
+command_within (word ∷ words) Export is = tt

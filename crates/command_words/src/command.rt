@@ -25,6 +25,8 @@ pub enum Command {
     Drill(u64),
     /// `pick`: follow the polls of the input, and pick.
     Pick(Picking),
+    /// `export`: answer the requests of the input on a standard plane, and write its journal.
+    Export,
 }
 
 /// Why words are not read.
@@ -68,6 +70,10 @@ fn command_of(alloc: Global, words: &[Text]) -> Result<Command, WordsError>
         "gen" => Ok(Command::Generate(read_number(texts.as_slice())?)),
         "drill" => Ok(Command::Drill(read_number(texts.as_slice())?)),
         "pick" => Ok(Command::Pick(read_pick(alloc, texts.as_slice())?)),
+        "export" => {
+            read_bare(alloc, texts.as_slice())?;
+            Ok(Command::Export)
+        }
         _ => Err(WordsError::Usage),
     }
 }
@@ -75,7 +81,7 @@ fn command_of(alloc: Global, words: &[Text]) -> Result<Command, WordsError>
 /// The command that the words are, with its options or its number.
 ///
 /// The first word names the command. An option is given at most once, in any order, as `--name value` or
-/// `--name=value`; a value in a word of its own doesn't begin with `-`. `gen` and `drill` have one number behind them, and `check` nothing. `Usage` comes
+/// `--name=value`; a value in a word of its own doesn't begin with `-`. `gen` and `drill` have one number behind them, `check` and `export` nothing. `Usage` comes
 /// exactly where the words are no command, or an option's value isn't one that it takes, or an option that has to be given isn't. There is no `--help`.
 #[tactic(auto, using(crate::proofs::Within::command_within))]
 pub fn read_command(alloc: Global, words: &[Text]) -> Result<Command, WordsError>

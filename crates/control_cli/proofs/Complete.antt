@@ -58,7 +58,7 @@ not_long (Some xs) (Some ys) all bytes told took short long =
     let sum : length all ≡ length bytes + length ys = ap length (sym same ∙ took) ∙ length-append bytes ys in
     omega (arith, sum, short, long)
 
-ends : (old new : SessionState WorldView) (answered : ℕ) (end : SessionEnd) → Finishes Asks AskCut After AfterCut Leave old new answered end
+pub ends : (old new : SessionState WorldView) (answered : ℕ) (end : SessionEnd) → Finishes Asks AskCut After AfterCut Leave old new answered end
     → (all : List ℕ) → old.left ≡ Some all → (asked : List Asked) → IsStream all asked stream.Clean ⊎ IsStream all asked stream.Closed
     → length all < 4294967295 → ¬ (Rose old.reads_failed new.reads_failed) → ¬ (Rose old.writes_failed new.writes_failed)
     → (status_of end ≡ Done) ⊎ (status_of end ≡ NoMemory)

@@ -4,3 +4,4 @@ pub mod Settings
 pub mod Starts
 pub mod Complete
 pub mod Commands
+pub mod Exporting

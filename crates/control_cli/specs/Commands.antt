@@ -5,8 +5,9 @@ use Rattle.http_session.specs.Session.{SessionState}
 use Rattle.api_server.specs.Ask.{WorldView}
 use Rattle.connection_loop.specs.Sessions.{timed}
 use Rattle.connection_loop.specs.Serves.{Serving, serving, LineSink, line_sink}
+use Rattle.journal_export.specs.Exports.{RefusesStandard}
 use Rattle.command_words.specs.declared.command.Command.{Command}
-use Rattle.command_words.specs.declared.command.Command.TheVariants.{Replay, Serve, Check, Generate, Drill, Pick}
+use Rattle.command_words.specs.declared.command.Command.TheVariants.{Replay, Serve, Check, Generate, Drill, Pick, Export}
 use Rattle.command_words.specs.declared.serving.Serving.{Serving as Words}
 use Rattle.command_words.specs.Grammar.{Word, IsCommand}
 use Rattle.control_cli.specs.declared.status.Status.{Status}
@@ -16,6 +17,7 @@ use Rattle.control_cli.specs.Checks.{CheckRuns}
 use Rattle.control_cli.specs.Picks.{PickRuns}
 use Rattle.control_cli.specs.Serves.{ServeRuns}
 use Rattle.control_cli.specs.Drills.{StreamRuns, DrillRuns}
+use Rattle.control_cli.specs.Exports.{ExportRuns}
 
 -- ---- what a run is handed
 
@@ -65,6 +67,7 @@ CommandLeaves (Generate count) old new gate_old gate_new status =
 CommandLeaves (Drill count) old new gate_old gate_new status =
     DrillRuns count old.handler new.handler old.taken new.taken old.writes_failed new.writes_failed status × (new.moments ≡ old.moments) × KeepsSource old new
 CommandLeaves (Pick picking) old new gate_old gate_new status = PickRuns picking (ends_in old) (ends_in new) status × KeepsWorld old new
+CommandLeaves Export old new gate_old gate_new status = ExportRuns old new status
 
 -- the command is one that sets up the world, and the world refuses its settings
 abbrev pub RefusesCommand : Command → WorldView → Type 0
@@ -74,6 +77,7 @@ RefusesCommand Check w = ⊥
 RefusesCommand (Generate count) w = ⊥
 RefusesCommand (Drill count) w = ⊥
 RefusesCommand (Pick picking) w = ⊥
+RefusesCommand Export w = RefusesStandard w
 
 -- the command serves the gate
 abbrev pub IsServing : Command → Type 0

@@ -9,6 +9,8 @@ use Rattle.connection_loop.specs.declared.serving.ServeEnd.{ServeEnd}
 use Rattle.connection_loop.specs.declared.serving.ServeEnd.TheVariants as serve
 use Rattle.request_drill.specs.declared.command.DrillEnd.{DrillEnd}
 use Rattle.request_drill.specs.declared.command.DrillEnd.TheVariants as drill
+use Rattle.journal_export.specs.declared.command.ExportEnd.{ExportEnd}
+use Rattle.journal_export.specs.declared.command.ExportEnd.TheVariants as export
 use Rattle.control_cli.specs.declared.status.Status.{Status}
 use Rattle.control_cli.specs.declared.status.Status.TheVariants.{Done, Usage, Cut, GateFault, BadRequest, ManifestRefused, PollRefused, ReadFault, WriteFault, TooLong, Memory}
 
@@ -48,3 +50,13 @@ abbrev pub status_of_drill : DrillEnd → Status
 status_of_drill drill.Done = Done
 status_of_drill drill.WriteFault = WriteFault
 status_of_drill drill.Memory = Memory
+
+abbrev pub status_of_export : ExportEnd → Status
+status_of_export export.Done = Done
+status_of_export export.Usage = Usage
+status_of_export export.Cut = Cut
+status_of_export export.BadRequest = BadRequest
+status_of_export export.ReadFault = ReadFault
+status_of_export export.WriteFault = WriteFault
+status_of_export export.TooLong = TooLong
+status_of_export export.Memory = Memory

@@ -5,4 +5,5 @@ pub mod Checks
 pub mod Picks
 pub mod Serves
 pub mod Drills
+pub mod Exports
 pub mod Commands

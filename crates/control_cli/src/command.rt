@@ -10,6 +10,7 @@ ghost use Rattle.control_cli.specs.Commands.{gate_of, CommandLeaves, RefusesComm
 
 use crate::check::check_manifest;
 use crate::drill::{generate, run_drill};
+use crate::export::export_journal;
 use crate::pick::pick_numbers;
 use crate::replay::replay;
 use crate::serve::serve_gate;
@@ -58,6 +59,7 @@ fn run_command<S: Source, K: Sink, C: Clock, G: Gate>(
         Command::Generate(count) => generate(alloc, count, sink),
         Command::Drill(count) => run_drill(alloc, count, world, sink),
         Command::Pick(picking) => pick_numbers(alloc, picking, source, sink),
+        Command::Export => export_journal(alloc, world, source, sink, clock),
     }
 }
 
@@ -68,6 +70,7 @@ fn run_command<S: Source, K: Sink, C: Clock, G: Gate>(
 /// - `check` reads one manifest from the source and writes it with its defaults, or its refusal, to the sink.
 /// - `gen` writes the stream of requests that a number makes, and `drill` runs that stream over the world in memory and writes seven lines that tell of the run.
 /// - `pick` follows the polls of Tables that the source gives, one a line, and writes which Revision each number picks.
+/// - `export` is a session over the source on that world with the standard settings, whose replies go to nobody, and then writes the journal as text.
 ///
 /// A source, a sink or a gate that fails ends the run with its status and isn't tried again; a run that is out of memory ends so too. Words outside the grammar are
 /// `Usage`, and so are settings that the world refuses: nothing is read or written, and the world is as before.

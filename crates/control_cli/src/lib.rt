@@ -4,6 +4,7 @@
 mod check;
 mod command;
 mod drill;
+mod export;
 mod pick;
 mod replay;
 mod serve;
