@@ -33,7 +33,7 @@ use Rattle.step_scheduler.specs.declared.held.Held.TheVariants as held_by
 use Rattle.step_scheduler.specs.declared.held.Stage.TheVariants as stage
 use Rattle.step_scheduler.specs.Rows.{Row, row_of, with_row, without_row, is_plan, look_in, meaning, stage_by, stage_of}
 use Rattle.step_scheduler.specs.Works.{HoldsLook, IsPlannedAt, write_in, Writes}
-use Rattle.step_scheduler.specs.Planes.{PlaneView, plane_of, AreMeant, IsPlane, Steps, Stays}
+use Rattle.step_scheduler.specs.Planes.{PlaneView, plane_of, AreMeant, AreSlots, Steps, Stays}
 use Rattle.step_scheduler.proofs.Rows.{look-found, look-held, look-idle}
 
 -- ---- stages
@@ -86,10 +86,10 @@ module _ (settings : Settings) where
   -- a plane after the event keeps what planes keep
   pub record Becomes (w : Plane) (key : SlotKey) (journal : Journal) (now : ℕ) (rows : List Row) (cursor : Option SlotKey) (answer : StepOutcome) : Type 0 where
     pub event : Steps w key (plane_of settings journal now rows cursor) answer
-    pub plane : IsPlane settings journal now rows cursor
+    pub plane : AreSlots settings journal now rows cursor
 
   module _ (journal : Journal) (now : ℕ) (rows : List Row) (cursor : Option SlotKey) (key : SlotKey)
-      (k : IsPlane settings journal now rows cursor) where
+      (k : AreSlots settings journal now rows cursor) where
     abbrev w : Plane
     w = plane_of settings journal now rows cursor
 
@@ -230,7 +230,7 @@ stays_same u v e kept = subst (λ z. Stays z.plane z.plane) e (record { same = r
 
 -- an idled slot, and a slot that is found
 module _ (settings : Settings) (journal : Journal) (now : ℕ) (rows : List Row) (cursor : Option SlotKey) (key : SlotKey)
-    (k : IsPlane settings journal now rows cursor) where
+    (k : AreSlots settings journal now rows cursor) where
   idled_meant : AreMeant (plane_of settings journal now rows cursor) (without_row key rows)
   idled_meant q row e = go (is_eq (slot_order.ghosts.cmp key q)) (sym (find-without (λ (r : Row). r.key) slot_order.ghosts.cmp slot_laws.total-law q key rows) ∙ e)
     where
@@ -241,7 +241,7 @@ module _ (settings : Settings) (journal : Journal) (now : ℕ) (rows : List Row)
   pub idled_is : (rows' : List Row) → rows' ≡ without_row key rows → plane_of settings journal now rows' cursor ≡ record (plane_of settings journal now rows cursor) { slots = idle_at key (map look_in rows) }
   idled_is rows' e = ap (λ (s : Slots). record (plane_of settings journal now rows cursor) { slots = s }) (ap (map look_in) e ∙ look-idle key rows)
 
-  pub idled : (rows' : List Row) → rows' ≡ without_row key rows → IsPlane settings journal now rows' cursor
+  pub idled : (rows' : List Row) → rows' ≡ without_row key rows → AreSlots settings journal now rows' cursor
   idled rows' e = record {
     kept = subst (IsKept is_good) (sym (idled_is rows' e)) (drops_kept is_good (plane_of settings journal now rows cursor) key k.kept);
     meant = subst (AreMeant (plane_of settings journal now rows cursor)) (sym e) idled_meant;

@@ -13,6 +13,9 @@ ghost use Rattle.step_scheduler.specs.Looking.{CanLook};
 ghost use Rattle.step_scheduler.specs.Causes.{IsCaused, IsTaken, HasNoRevision};
 ghost use Rattle.step_scheduler.specs.Reported.{IsReport, Hears};
 ghost use Rattle.step_scheduler.specs.Planes.{Is, Steps, Stays, IsSafeThroughout, RemovesUnusedAlone};
+ghost use Rattle.step_scheduler.specs.Touched.{IsUntouched, IsRevisionKey, IsCollectorKey, TouchesSame, TouchesAtMost, TouchesByEntries};
+
+mod touched;
 
 use crate::counts::one_more;
 use crate::held::{Held, Stage};
@@ -27,12 +30,13 @@ use slot_keys::{is_key, keys_of, next_key};
 use slot_table::SlotTable;
 use std::alloc::{AllocError, Global};
 use std::marker::Model;
+use touched_keys::Marks;
 use version_store::{Applied, Plan, Store, Write};
 
 /// The store of all that was written, the moment, and what each slot holds.
 ///
-/// Contracts see it as the plane of the rules; as a number `spare`, for how many more entries there is memory; and as two
-/// counts, of looks and of turns, since it was made.
+/// Contracts see it as the plane of the rules; as a number `spare`, for how many more entries there is memory; as two
+/// counts, of looks and of turns, since it was made; and as a set of touched keys: to each other key nothing is due.
 #[derive(Drop)]
 pub struct Plane {
     alloc: Global,
@@ -44,6 +48,8 @@ pub struct Plane {
     cursor: Option<SlotKey>,
     look_count: u64,
     turn_count: u64,
+    // The keys to which something may be due.
+    marks: Marks,
 }
 
 impl Model for Plane {
@@ -55,9 +61,9 @@ impl Model for Plane {
 
     ghost coded = { Prim.hlevel (codes, json.the_row.coded) };
 
-    ghost view = { λ p. view_of p.settings p.store p.moment p.slots p.cursor p.look_count p.turn_count };
+    ghost view = { λ p. view_of p.settings p.store p.moment p.slots p.cursor p.look_count p.turn_count p.marks };
 
-    ghost invariant = { λ p. IsPlane p.settings p.store.entries p.moment p.slots p.cursor };
+    ghost invariant = { λ p. IsPlane p.settings p.store.entries p.moment p.slots p.cursor p.marks };
 }
 
 impl Plane {
@@ -67,6 +73,7 @@ impl Plane {
         ensures spare { result.spare ≡ 0 }
         ensures looks { result.looks ≡ 0 }
         ensures turns { result.turns ≡ 0 }
+        ensures untouched { IsUntouched result }
     {
         Plane {
             alloc,
@@ -77,6 +84,7 @@ impl Plane {
             cursor: None,
             look_count: 0,
             turn_count: 0,
+            marks: Marks::new(alloc),
         }
     }
 
@@ -96,6 +104,8 @@ impl Plane {
         ensures spare { self.new.spare ≡ self.old.spare }
         ensures looks { self.new.looks ≡ self.old.looks }
         ensures turns { self.new.turns ≡ self.old.turns }
+        ensures marks { self.new.marks ≡ self.old.marks }
+        ensures touched { TouchesSame self.old self.new }
     {
         if self.store.version() == 0 {
             self.settings = settings;
@@ -173,6 +183,8 @@ impl Plane {
         ensures spare { self.new.spare ≡ self.old.spare }
         ensures looks { self.new.looks ≡ self.old.looks }
         ensures turns { self.new.turns ≡ self.old.turns }
+        ensures touched { TouchesAtMost IsCollectorKey self.old self.new }
+        ensures still { self.new.plane.now ≡ self.old.plane.now → TouchesSame self.old self.new }
     {
         if moment < self.moment {
             return Err(ClockBack { now: self.moment });
@@ -190,6 +202,8 @@ impl Plane {
         ensures err { OnErr result (self.new.spare ≡ self.old.spare) }
         ensures looks { self.new.looks ≡ self.old.looks }
         ensures turns { self.new.turns ≡ self.old.turns }
+        ensures marks { self.new.marks ≡ self.old.marks }
+        ensures touched { TouchesSame self.old self.new }
     {
         self.store.prepare()
     }
@@ -206,6 +220,8 @@ impl Plane {
         ensures spare { self.new.spare ≡ spare_after result self.old.spare }
         ensures looks { self.new.looks ≡ self.old.looks }
         ensures turns { self.new.turns ≡ self.old.turns }
+        ensures marks { self.new.marks ≡ self.old.marks }
+        ensures touched { TouchesByEntries self.old self.new }
         ensures safe { IsSafeThroughout self.new.plane.journal }
         ensures unused { RemovesUnusedAlone self.new.plane.journal }
     {
@@ -229,6 +245,9 @@ impl Plane {
         ensures err { OnErr result (self.new.plane ≡ self.old.plane) }
         ensures looks { self.new.looks ≡ self.old.looks }
         ensures turns { self.new.turns ≡ self.old.turns }
+        ensures marks { self.new.marks ≡ self.old.marks }
+        ensures touched { TouchesAtMost (IsRevisionKey report.revision) self.old self.new }
+        ensures still { TouchesByEntries self.old self.new }
         ensures safe { IsSafeThroughout self.new.plane.journal }
         ensures unused { RemovesUnusedAlone self.new.plane.journal }
     {
@@ -240,6 +259,7 @@ impl Plane {
         ensures event { Hears self.old.plane report self.new.plane result }
         ensures looks { self.new.looks ≡ self.old.looks }
         ensures turns { self.new.turns ≡ self.old.turns }
+        ensures marks { self.new.marks ≡ self.old.marks }
     {
         let Some(uid) = uid_of(&self.store, &report.revision) else {
             return Err(ReportError::NoSuchRevision);
@@ -271,6 +291,8 @@ impl Plane {
         ensures err { OnErr result (self.new.plane ≡ self.old.plane) }
         ensures looks { self.new.looks ≡ looks_after result self.old.looks }
         ensures turns { self.new.turns ≡ self.old.turns }
+        ensures marks { self.new.marks ≡ self.old.marks }
+        ensures touched { TouchesByEntries self.old self.new }
         ensures safe { IsSafeThroughout self.new.plane.journal }
         ensures unused { RemovesUnusedAlone self.new.plane.journal }
     {
@@ -285,6 +307,7 @@ impl Plane {
         ensures err { OnErr result (Stays self.old.plane self.new.plane) }
         ensures looks { self.new.looks ≡ self.old.looks }
         ensures turns { self.new.turns ≡ self.old.turns }
+        ensures marks { self.new.marks ≡ self.old.marks }
     {
         if !is_key(&self.store, key) {
             self.slots.idle(key);
@@ -322,6 +345,7 @@ impl Plane {
         ensures plane { self.new.plane ≡ self.old.plane }
         ensures looks { self.new.looks ≡ looks_with answer self.old.looks }
         ensures turns { self.new.turns ≡ self.old.turns }
+        ensures marks { self.new.marks ≡ self.old.marks }
     {
         if let StepOutcome::Looked { seen: _ } = answer {
             self.look_count = one_more(self.look_count);
@@ -363,6 +387,7 @@ impl Plane {
         ensures plane { self.new.plane ≡ record self.old.plane { slots = idle_at key.now self.old.plane.slots } }
         ensures looks { self.new.looks ≡ self.old.looks }
         ensures turns { self.new.turns ≡ self.old.turns }
+        ensures marks { self.new.marks ≡ self.old.marks }
     {
         self.slots.idle(key);
     }
@@ -372,6 +397,7 @@ impl Plane {
         ensures plane { self.new.plane ≡ self.old.plane }
         ensures looks { self.new.looks ≡ self.old.looks }
         ensures turns { self.new.turns ≡ one_more self.old.turns }
+        ensures marks { self.new.marks ≡ self.old.marks }
     {
         self.turn_count = one_more(self.turn_count);
     }
@@ -404,6 +430,7 @@ impl Plane {
         ensures plane { self.new.plane ≡ record self.old.plane { cursor = Some key } }
         ensures looks { self.new.looks ≡ self.old.looks }
         ensures turns { self.new.turns ≡ self.old.turns }
+        ensures marks { self.new.marks ≡ self.old.marks }
     {
         self.cursor = Some(key);
     }
