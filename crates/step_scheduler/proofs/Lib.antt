@@ -8,3 +8,7 @@ pub mod Cursor
 pub mod Reporting
 pub mod Promising
 pub mod Caused
+pub mod Naming
+pub mod Marking
+pub mod HealthTouches
+pub mod Touched

@@ -200,6 +200,11 @@ module _ (settings : Settings) where
           k.meant q row found
           ∙ sym (ap (λ st. next_write settings row.key st row.read_at) (state_at-grows (λ (o : Object). o.key) key_order.ghosts.cmp journal journal' row.seen grows seen.before))
 
+      -- the journal grows, if at all
+      pub steps_grow : (h : HasPlanned (row_of key rows)) → (journal' : Journal) (rows' : List Row) (answer : StepOutcome) → Writes journal journal' now key rows rows' answer → Grows journal journal'
+      steps_grow h journal' rows' answer e =
+          subst (Grows journal) (sym (e.written h.row h.plan h.found h.planned)) (grows_after object_item.ghosts key_order.ghosts.cmp journal (write_in now h.row h.plan))
+
       -- the plan is written
       pub steps_write : HasPlanned (row_of key rows) → (journal' : Journal) (rows' : List Row) (answer : StepOutcome) → Writes journal journal' now key rows rows' answer → Becomes w key journal' now rows' cursor answer
       steps_write h journal' rows' answer e =
@@ -214,9 +219,8 @@ module _ (settings : Settings) where
           let plane : plane_of settings journal' now rows' cursor ≡ (writes w (look_in row) (Some h.plan)).plane =
           ap (λ (j : Journal). record w { journal = j; slots = map look_in rows' }) written
           ∙ ap (λ (s : Slots). record w { journal = entries_in journal write; slots = s }) idled in
-          let grows : Grows journal journal' = subst (Grows journal) (sym written) (grows_after object_item.ghosts key_order.ghosts.cmp journal write) in
           finish (writes w (look_in row) (Some h.plan)) journal' rows' answer step plane (e.answered row h.plan h.found h.planned)
-          (subst (AreMeant (plane_of settings journal' now rows' cursor)) (sym e.rows) (meant_grown journal' grows rows'))
+          (subst (AreMeant (plane_of settings journal' now rows' cursor)) (sym e.rows) (meant_grown journal' (steps_grow h journal' rows' answer e) rows'))
 
 -- ---- from the parts of a plane to the plane
 

@@ -189,6 +189,10 @@ impl Plane {
         if moment < self.moment {
             return Err(ClockBack { now: self.moment });
         }
+        if moment == self.moment {
+            return Ok(());
+        }
+        self.marks.note_moment();
         self.moment = moment;
         Ok(())
     }
@@ -260,6 +264,7 @@ impl Plane {
         ensures looks { self.new.looks ≡ self.old.looks }
         ensures turns { self.new.turns ≡ self.old.turns }
         ensures marks { self.new.marks ≡ self.old.marks }
+        ensures touched { TouchesAtMost (IsRevisionKey report.revision) self.old self.new }
     {
         let Some(uid) = uid_of(&self.store, &report.revision) else {
             return Err(ReportError::NoSuchRevision);

@@ -6,9 +6,9 @@ use Rattle.step_scheduler.proofs.plane.Plane.idle.Goals as goal
 pub invariant_of-self : goal.invariant_of-self
 invariant_of-self c = record {
   slots =
-        let p = c.self.inside in
-        idled p.settings p.store.entries p.moment p.slots p.cursor c.args.key.now c.self.invariant.slots c.idle.new.self c.idle.ensures;
-  marked = ?;
+      let p = c.self.inside in
+      idled p.settings p.store.entries p.moment p.slots p.cursor c.args.key.now c.self.invariant.slots c.idle.new.self c.idle.ensures;
+  marked = c.self.invariant.marked;
 }
 
 pub returns-clause-plane : goal.returns-clause-plane

@@ -5,9 +5,9 @@ use Rattle.step_scheduler.proofs.plane.Plane.point.Goals as goal
 pub invariant_of-self : goal.invariant_of-self
 invariant_of-self c = record {
   slots =
-        let p = c.self.inside in
-        cursor_moves p.settings p.store.entries p.moment p.slots p.cursor c.self.invariant.slots (Some c.args.key);
-  marked = ?;
+      let p = c.self.inside in
+      cursor_moves p.settings p.store.entries p.moment p.slots p.cursor c.self.invariant.slots (Some c.args.key);
+  marked = c.self.invariant.marked;
 }
 
 pub returns-clause-plane : goal.returns-clause-plane
