@@ -3,6 +3,7 @@ pub mod Steps
 pub mod Events
 pub mod Sets
 pub mod Chains
+pub mod Untouched
 pub mod Settling
 pub mod Cursor
 pub mod Reporting
