@@ -20,12 +20,12 @@ use Rattle.control_rules.specs.Facts.{IsKept}
 use Rattle.control_entries.proofs.KeptEvents.{client_kept}
 use Rattle.control_rules.proofs.KeptPlanes.{moves_kept, points_kept}
 use Rattle.step_scheduler.specs.Rows.{Row, look_in}
-use Rattle.step_scheduler.specs.Planes.{plane_of, AreMeant, IsPlane}
+use Rattle.step_scheduler.specs.Planes.{plane_of, AreMeant, AreSlots}
 use Rattle.step_scheduler.proofs.Rows.{look-found}
 
-module _ (settings : Settings) (journal : Journal) (now : ℕ) (rows : List Row) (cursor : Option SlotKey) (k : IsPlane settings journal now rows cursor) where
+module _ (settings : Settings) (journal : Journal) (now : ℕ) (rows : List Row) (cursor : Option SlotKey) (k : AreSlots settings journal now rows cursor) where
   -- the moment moves on
-  pub clock_moves : (later : ℕ) → now ≤ later → later ≤ last_moment → IsPlane settings journal later rows cursor
+  pub clock_moves : (later : ℕ) → now ≤ later → later ≤ last_moment → AreSlots settings journal later rows cursor
   clock_moves later le clock = record { kept = moves_kept is_good (plane_of settings journal now rows cursor) later le clock k.kept; meant = k.meant }
 
   -- what slots hold means the same in a journal that grew
@@ -36,7 +36,7 @@ module _ (settings : Settings) (journal : Journal) (now : ℕ) (rows : List Row)
       ∙ sym (ap (λ st. next_write settings row.key st row.read_at) (state_at-grows (λ (o : Object). o.key) key_order.ghosts.cmp journal journal' row.seen grows seen.before))
 
   -- the journal grows as a client's write makes it
-  pub client_writes : (journal' : Journal) → Grows journal journal' → (v : Plane) → plane_of settings journal' now rows cursor ≡ v → IsKept is_good v → IsPlane settings journal' now rows cursor
+  pub client_writes : (journal' : Journal) → Grows journal journal' → (v : Plane) → plane_of settings journal' now rows cursor ≡ v → IsKept is_good v → AreSlots settings journal' now rows cursor
   client_writes journal' grows v e kept = record { kept = subst (IsKept is_good) (sym e) kept; meant = meant_later journal' grows }
 
   -- the journal of a client's write
@@ -50,10 +50,10 @@ module _ (settings : Settings) (journal : Journal) (now : ℕ) (rows : List Row)
   -- a client's write leaves what planes keep
   pub client_plane : (journal' : Journal) → Grows journal journal' → (plan : ObjectPlan) (n : ℕ)
       → journal' ≡ entries_in journal (record { plan = plan; actor = actor.Client; seen = n; read_at = now; moment = now }) → n ≡ length journal
-      → MayWrite is_good (present (plane_of settings journal now rows cursor)) plan → IsPlane settings journal' now rows cursor
+      → MayWrite is_good (present (plane_of settings journal now rows cursor)) plan → AreSlots settings journal' now rows cursor
   client_plane journal' grows plan n e count may =
       client_writes journal' grows _ (client_is journal' plan n e count) (client_kept is_good (plane_of settings journal now rows cursor) k.kept plan may)
 
   -- the cursor moves
-  pub cursor_moves : (cursor' : Option SlotKey) → IsPlane settings journal now rows cursor'
+  pub cursor_moves : (cursor' : Option SlotKey) → AreSlots settings journal now rows cursor'
   cursor_moves cursor' = record { kept = points_kept is_good (plane_of settings journal now rows cursor) cursor' k.kept; meant = k.meant }

@@ -3,8 +3,16 @@ pub mod Steps
 pub mod Events
 pub mod Sets
 pub mod Chains
+pub mod Untouched
+pub mod OwnKeys
+pub mod Skipping
+pub mod Visits
 pub mod Settling
 pub mod Cursor
 pub mod Reporting
 pub mod Promising
 pub mod Caused
+pub mod Naming
+pub mod Marking
+pub mod HealthTouches
+pub mod Touched

@@ -28,7 +28,7 @@ use Rattle.step_scheduler.specs.Causes.{IsTaken}
 use Rattle.step_scheduler.proofs.Caused.{report_taken}
 use Rattle.step_scheduler.proofs.Promising.{kept_safe, kept_unused}
 use Rattle.control_rules.specs.Facts.{IsKept}
-use Rattle.step_scheduler.specs.Planes.{PlaneView, plane_of, IsPlane, Is, IsSafeThroughout, RemovesUnusedAlone}
+use Rattle.step_scheduler.specs.Planes.{PlaneView, plane_of, AreSlots, Is, IsSafeThroughout, RemovesUnusedAlone}
 use Rattle.step_scheduler.proofs.Events.{client_writes}
 
 -- the uid of what stands, if anything does
@@ -69,7 +69,7 @@ report_makeable journal before report uid plan e is =
     let h = some_if (standing kind.Revision report.revision (state journal)) uid e in
     subst (IsMakeable (λ (o : Object). o.key)) (sym (is h.object h.same)) (makeable report h.object _)
 
-module _ (settings : Settings) (journal : Journal) (now : ℕ) (rows : List Row) (cursor : Option SlotKey) (k : IsPlane settings journal now rows cursor) where
+module _ (settings : Settings) (journal : Journal) (now : ℕ) (rows : List Row) (cursor : Option SlotKey) (k : AreSlots settings journal now rows cursor) where
   abbrev w : Plane
   w = plane_of settings journal now rows cursor
 
@@ -87,7 +87,7 @@ module _ (settings : Settings) (journal : Journal) (now : ℕ) (rows : List Row)
         answer_is = ap Some (h.answered ∙ ap (answer_in journal) write_is) ∙ sym (ap (λ o. (report_on w report o).answer) s.stands);
       }
 
-  pub reports_kept : (journal' : Journal) (report : Report) (answer : Option Applied) → Grows journal journal' → Is (report_of w report) (plane_of settings journal' now rows cursor) answer → IsPlane settings journal' now rows cursor
+  pub reports_kept : (journal' : Journal) (report : Report) (answer : Option Applied) → Grows journal journal' → Is (report_of w report) (plane_of settings journal' now rows cursor) answer → AreSlots settings journal' now rows cursor
   reports_kept journal' report answer grows is = client_writes settings journal now rows cursor k journal' grows (report_of w report).plane is.plane_is (report_kept is_good w k.kept report)
 
   -- ---- the report that is heard

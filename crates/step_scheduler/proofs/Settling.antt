@@ -17,7 +17,8 @@ use Rattle.control_rules.specs.Events.Works.{Rests}
 use Rattle.control_settle.proofs.Settles.{kept_settles, kept_is_soon}
 use Rattle.good_laws.proofs.Theorems.{good_laws}
 use Rattle.step_scheduler.specs.Counts.{one_more, more_by}
-use Rattle.step_scheduler.specs.Turns.{IsSettling}
+use Rattle.step_scheduler.specs.Planes.{PlaneView}
+use Rattle.step_scheduler.specs.Turns.{IsTurn, IsSettling, IsCalmStart}
 use Rattle.step_scheduler.proofs.Chains.{then_works, works_grow}
 
 -- a turn more at the end
@@ -176,3 +177,13 @@ no_more n = refl
 pub more_next : (t n m k : ℕ) → m ≡ more_by t n → k ≡ one_more m → k ≡ more_by (t + 1) n
 unfolding more_by
 more_next t n m k e f = let s : suc t ≡ t + 1 = omega arith in f ∙ ap one_more e ∙ ap (λ u. more_by u n) s
+
+-- ---- what a turn made
+
+-- a turn made as many entries as the journal has more
+pub turn_made : (w v : Plane) (before after entries : ℕ) → IsTurn w v entries → before ≡ length w.journal → after ≡ length v.journal → entries ≡ after - before
+turn_made w v before after entries t b a = let grown : length v.journal ≡ length (turn_of w).journal = ap (λ x. length x.journal) t.is in omega (arith, t.count, grown, b, a)
+
+-- a settle of one turn that looked at nothing
+pub calm_ends : (u w v : PlaneView) (turns : ℕ) → IsCalmStart u w turns → v.looks ≡ w.looks → (turns + 1 ≡ 1) × (v.looks ≡ u.looks)
+calm_ends u w v turns start looks = (let none = start.none in omega (arith, none), looks ∙ start.looks)

@@ -33,7 +33,7 @@ use Rattle.step_scheduler.specs.declared.held.Held.TheVariants as held_by
 use Rattle.step_scheduler.specs.declared.held.Stage.TheVariants as stage
 use Rattle.step_scheduler.specs.Rows.{Row, row_of, with_row, without_row, is_plan, look_in, meaning, stage_by, stage_of}
 use Rattle.step_scheduler.specs.Works.{HoldsLook, IsPlannedAt, write_in, Writes}
-use Rattle.step_scheduler.specs.Planes.{PlaneView, plane_of, AreMeant, IsPlane, Steps, Stays}
+use Rattle.step_scheduler.specs.Planes.{PlaneView, plane_of, AreMeant, AreSlots, Steps, Stays}
 use Rattle.step_scheduler.proofs.Rows.{look-found, look-held, look-idle}
 
 -- ---- stages
@@ -86,10 +86,10 @@ module _ (settings : Settings) where
   -- a plane after the event keeps what planes keep
   pub record Becomes (w : Plane) (key : SlotKey) (journal : Journal) (now : ℕ) (rows : List Row) (cursor : Option SlotKey) (answer : StepOutcome) : Type 0 where
     pub event : Steps w key (plane_of settings journal now rows cursor) answer
-    pub plane : IsPlane settings journal now rows cursor
+    pub plane : AreSlots settings journal now rows cursor
 
   module _ (journal : Journal) (now : ℕ) (rows : List Row) (cursor : Option SlotKey) (key : SlotKey)
-      (k : IsPlane settings journal now rows cursor) where
+      (k : AreSlots settings journal now rows cursor) where
     abbrev w : Plane
     w = plane_of settings journal now rows cursor
 
@@ -200,6 +200,11 @@ module _ (settings : Settings) where
           k.meant q row found
           ∙ sym (ap (λ st. next_write settings row.key st row.read_at) (state_at-grows (λ (o : Object). o.key) key_order.ghosts.cmp journal journal' row.seen grows seen.before))
 
+      -- the journal grows, if at all
+      pub steps_grow : (h : HasPlanned (row_of key rows)) → (journal' : Journal) (rows' : List Row) (answer : StepOutcome) → Writes journal journal' now key rows rows' answer → Grows journal journal'
+      steps_grow h journal' rows' answer e =
+          subst (Grows journal) (sym (e.written h.row h.plan h.found h.planned)) (grows_after object_item.ghosts key_order.ghosts.cmp journal (write_in now h.row h.plan))
+
       -- the plan is written
       pub steps_write : HasPlanned (row_of key rows) → (journal' : Journal) (rows' : List Row) (answer : StepOutcome) → Writes journal journal' now key rows rows' answer → Becomes w key journal' now rows' cursor answer
       steps_write h journal' rows' answer e =
@@ -214,9 +219,8 @@ module _ (settings : Settings) where
           let plane : plane_of settings journal' now rows' cursor ≡ (writes w (look_in row) (Some h.plan)).plane =
           ap (λ (j : Journal). record w { journal = j; slots = map look_in rows' }) written
           ∙ ap (λ (s : Slots). record w { journal = entries_in journal write; slots = s }) idled in
-          let grows : Grows journal journal' = subst (Grows journal) (sym written) (grows_after object_item.ghosts key_order.ghosts.cmp journal write) in
           finish (writes w (look_in row) (Some h.plan)) journal' rows' answer step plane (e.answered row h.plan h.found h.planned)
-          (subst (AreMeant (plane_of settings journal' now rows' cursor)) (sym e.rows) (meant_grown journal' grows rows'))
+          (subst (AreMeant (plane_of settings journal' now rows' cursor)) (sym e.rows) (meant_grown journal' (steps_grow h journal' rows' answer e) rows'))
 
 -- ---- from the parts of a plane to the plane
 
@@ -230,7 +234,7 @@ stays_same u v e kept = subst (λ z. Stays z.plane z.plane) e (record { same = r
 
 -- an idled slot, and a slot that is found
 module _ (settings : Settings) (journal : Journal) (now : ℕ) (rows : List Row) (cursor : Option SlotKey) (key : SlotKey)
-    (k : IsPlane settings journal now rows cursor) where
+    (k : AreSlots settings journal now rows cursor) where
   idled_meant : AreMeant (plane_of settings journal now rows cursor) (without_row key rows)
   idled_meant q row e = go (is_eq (slot_order.ghosts.cmp key q)) (sym (find-without (λ (r : Row). r.key) slot_order.ghosts.cmp slot_laws.total-law q key rows) ∙ e)
     where
@@ -241,7 +245,7 @@ module _ (settings : Settings) (journal : Journal) (now : ℕ) (rows : List Row)
   pub idled_is : (rows' : List Row) → rows' ≡ without_row key rows → plane_of settings journal now rows' cursor ≡ record (plane_of settings journal now rows cursor) { slots = idle_at key (map look_in rows) }
   idled_is rows' e = ap (λ (s : Slots). record (plane_of settings journal now rows cursor) { slots = s }) (ap (map look_in) e ∙ look-idle key rows)
 
-  pub idled : (rows' : List Row) → rows' ≡ without_row key rows → IsPlane settings journal now rows' cursor
+  pub idled : (rows' : List Row) → rows' ≡ without_row key rows → AreSlots settings journal now rows' cursor
   idled rows' e = record {
     kept = subst (IsKept is_good) (sym (idled_is rows' e)) (drops_kept is_good (plane_of settings journal now rows cursor) key k.kept);
     meant = subst (AreMeant (plane_of settings journal now rows cursor)) (sym e) idled_meant;

@@ -4,6 +4,8 @@ pub mod Looking
 pub mod Rows
 pub mod Works
 pub mod Planes
+pub mod Touched
 pub mod Causes
 pub mod Turns
+pub mod Passes
 pub mod Reported

@@ -12,31 +12,39 @@ use Rattle.control_rules.specs.Safe.{IsSafe, RemovesUnused}
 use Rattle.control_rules.specs.Quiet.{IsQuiet}
 use Rattle.control_rules.specs.Final.{IsFinal}
 use Rattle.control_rules.specs.Facts.{IsKept}
+use Rattle.touched_keys.specs.Marks.{MarksView, AreMarks}
 use Rattle.step_scheduler.specs.Rows.{Row, row_of, look_in, meaning}
 
--- what contracts see of a plane: the plane of the rules, for how many more entries it has memory, and how often it looked and turned since it was made
+-- What contracts see of a plane: the plane of the rules, for how many more entries it has memory, how often it looked and turned since it was made, and
+-- which keys are marked as touched.
 pub record PlaneView : Type 0 where
   pub plane : Plane
   pub spare : ℕ
   pub looks : ℕ
   pub turns : ℕ
+  pub marks : MarksView
 
 -- the plane of the rules by its parts
 abbrev pub plane_of : Settings → Journal → ℕ → List Row → Option SlotKey → Plane
 plane_of settings journal now rows cursor = record { journal = journal; now = now; slots = map look_in rows; cursor = cursor; settings = settings }
 
-abbrev pub view_of : Settings → StoreView ObjectEntry → ℕ → List Row → Option SlotKey → ℕ → ℕ → PlaneView
-view_of settings store now rows cursor looks turns =
-    record { plane = plane_of settings store.entries now rows cursor; spare = store.spare; looks = looks; turns = turns }
+abbrev pub view_of : Settings → StoreView ObjectEntry → ℕ → List Row → Option SlotKey → ℕ → ℕ → MarksView → PlaneView
+view_of settings store now rows cursor looks turns marks =
+    record { plane = plane_of settings store.entries now rows cursor; spare = store.spare; looks = looks; turns = turns; marks = marks }
 
 -- what each slot holds means what was due at its look
 abbrev pub AreMeant : Plane → List Row → Type 0
 AreMeant w rows = (key : SlotKey) (row : Row) → row_of key rows ≡ Some row → meaning row.held ≡ plan_of w (look_in row)
 
--- what a plane keeps: its journal is lawful and each slot looks back at it, and what a slot holds is what was due at its look
-pub record IsPlane (settings : Settings) (journal : Journal) (now : ℕ) (rows : List Row) (cursor : Option SlotKey) : Type 0 where
+-- what slots keep: the journal is lawful and each slot looks back at it, and what a slot holds is what was due at its look
+pub record AreSlots (settings : Settings) (journal : Journal) (now : ℕ) (rows : List Row) (cursor : Option SlotKey) : Type 0 where
   pub kept : IsKept is_good (plane_of settings journal now rows cursor)
   pub meant : AreMeant (plane_of settings journal now rows cursor) rows
+
+-- what a plane keeps: that, and nothing was due to a key that isn't marked, when the last entries were taken in
+pub record IsPlane (settings : Settings) (journal : Journal) (now : ℕ) (rows : List Row) (cursor : Option SlotKey) (marks : MarksView) : Type 0 where
+  pub slots : AreSlots settings journal now rows cursor
+  pub marked : AreMarks settings journal now marks
 
 -- a plane and an answer are those of an event
 pub record Is {A : Type 0} (event : Event A) (plane : Plane) (answer : A) : Type 0 where

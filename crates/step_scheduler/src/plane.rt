@@ -1,18 +1,23 @@
 //! The plane, and its events.
-ghost use Rattle.std.specs.Prelude.{◌≡◌, ◌≢◌, ◌⊎◌, ◌↔◌, ◌≤◌, ◌<◌, ◌-◌, ◌^◌, [], length, is_some, Some, Err, IfOk, OnOk, OnErr, IfErr, IsErr};
+ghost use Rattle.std.specs.Prelude.{◌≡◌, ◌≢◌, ◌⊎◌, ◌↔◌, ◌≤◌, ◌<◌, ◌-◌, ◌^◌, [], length, Err, IfOk, OnOk, OnErr, IfErr, IsErr};
 ghost use Rattle.version_store.specs.Apply.{spare_after};
 ghost use Rattle.serve_names.specs.Moments.{last_moment};
 ghost use Rattle.resource_codec.specs.Storable.{AreStorable};
 ghost use Rattle.manifest_intake.specs.Good.{is_good};
-ghost use Rattle.control_rules.specs.Slots.{is_key, keys_for, look_of, idle_at, slot_of, new_plane, present};
-ghost use Rattle.control_rules.specs.Steps.{client_write_of, step_of, stays, picked};
+ghost use Rattle.control_rules.specs.Slots.{look_of, slot_of, new_plane, present};
+ghost use Rattle.control_rules.specs.Steps.{client_write_of, step_of};
 ghost use Rattle.control_rules.specs.Lawful.{MayWrite};
 ghost use Rattle.control_rules.specs.Facts.{IsKept, PlaneFacts};
-ghost use Rattle.step_scheduler.specs.Counts.{one_more, looks_with, looks_after};
+ghost use Rattle.step_scheduler.specs.Counts.{looks_with, looks_after};
 ghost use Rattle.step_scheduler.specs.Looking.{CanLook};
 ghost use Rattle.step_scheduler.specs.Causes.{IsCaused, IsTaken, HasNoRevision};
 ghost use Rattle.step_scheduler.specs.Reported.{IsReport, Hears};
 ghost use Rattle.step_scheduler.specs.Planes.{Is, Steps, Stays, IsSafeThroughout, RemovesUnusedAlone};
+ghost use Rattle.step_scheduler.specs.Touched.{IsUntouched, IsRevisionKey, IsCollectorKey, TouchesSame, TouchesAtMost, TouchesByEntries};
+
+mod next;
+mod slots;
+mod touched;
 
 use crate::counts::one_more;
 use crate::held::{Held, Stage};
@@ -21,18 +26,18 @@ use crate::reports::{report_plan, uid_of};
 use crate::settings::are_same;
 use crate::work::{look, stage, write};
 use control_rules::{Report, Settings, Slot, StepOutcome};
-use json_tree::Copied;
 use resource_types::{Actor, Controller, Object, SlotKey};
-use slot_keys::{is_key, keys_of, next_key};
+use slot_keys::is_key;
 use slot_table::SlotTable;
 use std::alloc::{AllocError, Global};
 use std::marker::Model;
+use touched_keys::Marks;
 use version_store::{Applied, Plan, Store, Write};
 
 /// The store of all that was written, the moment, and what each slot holds.
 ///
-/// Contracts see it as the plane of the rules; as a number `spare`, for how many more entries there is memory; and as two
-/// counts, of looks and of turns, since it was made.
+/// Contracts see it as the plane of the rules; as a number `spare`, for how many more entries there is memory; as two
+/// counts, of looks and of turns, since it was made; and as a set of touched keys: to each other key nothing is due.
 #[derive(Drop)]
 pub struct Plane {
     alloc: Global,
@@ -44,6 +49,8 @@ pub struct Plane {
     cursor: Option<SlotKey>,
     look_count: u64,
     turn_count: u64,
+    // The keys to which something may be due.
+    marks: Marks,
 }
 
 impl Model for Plane {
@@ -55,9 +62,9 @@ impl Model for Plane {
 
     ghost coded = { Prim.hlevel (codes, json.the_row.coded) };
 
-    ghost view = { λ p. view_of p.settings p.store p.moment p.slots p.cursor p.look_count p.turn_count };
+    ghost view = { λ p. view_of p.settings p.store p.moment p.slots p.cursor p.look_count p.turn_count p.marks };
 
-    ghost invariant = { λ p. IsPlane p.settings p.store.entries p.moment p.slots p.cursor };
+    ghost invariant = { λ p. IsPlane p.settings p.store.entries p.moment p.slots p.cursor p.marks };
 }
 
 impl Plane {
@@ -67,6 +74,7 @@ impl Plane {
         ensures spare { result.spare ≡ 0 }
         ensures looks { result.looks ≡ 0 }
         ensures turns { result.turns ≡ 0 }
+        ensures untouched { IsUntouched result }
     {
         Plane {
             alloc,
@@ -77,6 +85,7 @@ impl Plane {
             cursor: None,
             look_count: 0,
             turn_count: 0,
+            marks: Marks::new(alloc),
         }
     }
 
@@ -96,6 +105,8 @@ impl Plane {
         ensures spare { self.new.spare ≡ self.old.spare }
         ensures looks { self.new.looks ≡ self.old.looks }
         ensures turns { self.new.turns ≡ self.old.turns }
+        ensures marks { self.new.marks ≡ self.old.marks }
+        ensures touched { TouchesSame self.old self.new }
     {
         if self.store.version() == 0 {
             self.settings = settings;
@@ -173,10 +184,16 @@ impl Plane {
         ensures spare { self.new.spare ≡ self.old.spare }
         ensures looks { self.new.looks ≡ self.old.looks }
         ensures turns { self.new.turns ≡ self.old.turns }
+        ensures touched { TouchesAtMost IsCollectorKey self.old self.new }
+        ensures still { self.new.plane.now ≡ self.old.plane.now → TouchesSame self.old self.new }
     {
         if moment < self.moment {
             return Err(ClockBack { now: self.moment });
         }
+        if moment == self.moment {
+            return Ok(());
+        }
+        self.marks.note_moment();
         self.moment = moment;
         Ok(())
     }
@@ -190,6 +207,8 @@ impl Plane {
         ensures err { OnErr result (self.new.spare ≡ self.old.spare) }
         ensures looks { self.new.looks ≡ self.old.looks }
         ensures turns { self.new.turns ≡ self.old.turns }
+        ensures marks { self.new.marks ≡ self.old.marks }
+        ensures touched { TouchesSame self.old self.new }
     {
         self.store.prepare()
     }
@@ -206,6 +225,8 @@ impl Plane {
         ensures spare { self.new.spare ≡ spare_after result self.old.spare }
         ensures looks { self.new.looks ≡ self.old.looks }
         ensures turns { self.new.turns ≡ self.old.turns }
+        ensures marks { self.new.marks ≡ self.old.marks }
+        ensures touched { TouchesByEntries self.old self.new }
         ensures safe { IsSafeThroughout self.new.plane.journal }
         ensures unused { RemovesUnusedAlone self.new.plane.journal }
     {
@@ -229,6 +250,9 @@ impl Plane {
         ensures err { OnErr result (self.new.plane ≡ self.old.plane) }
         ensures looks { self.new.looks ≡ self.old.looks }
         ensures turns { self.new.turns ≡ self.old.turns }
+        ensures marks { self.new.marks ≡ self.old.marks }
+        ensures touched { TouchesAtMost (IsRevisionKey report.revision) self.old self.new }
+        ensures still { TouchesByEntries self.old self.new }
         ensures safe { IsSafeThroughout self.new.plane.journal }
         ensures unused { RemovesUnusedAlone self.new.plane.journal }
     {
@@ -240,6 +264,8 @@ impl Plane {
         ensures event { Hears self.old.plane report self.new.plane result }
         ensures looks { self.new.looks ≡ self.old.looks }
         ensures turns { self.new.turns ≡ self.old.turns }
+        ensures marks { self.new.marks ≡ self.old.marks }
+        ensures touched { TouchesAtMost (IsRevisionKey report.revision) self.old self.new }
     {
         let Some(uid) = uid_of(&self.store, &report.revision) else {
             return Err(ReportError::NoSuchRevision);
@@ -271,6 +297,8 @@ impl Plane {
         ensures err { OnErr result (self.new.plane ≡ self.old.plane) }
         ensures looks { self.new.looks ≡ looks_after result self.old.looks }
         ensures turns { self.new.turns ≡ self.old.turns }
+        ensures marks { self.new.marks ≡ self.old.marks }
+        ensures touched { TouchesByEntries self.old self.new }
         ensures safe { IsSafeThroughout self.new.plane.journal }
         ensures unused { RemovesUnusedAlone self.new.plane.journal }
     {
@@ -285,6 +313,7 @@ impl Plane {
         ensures err { OnErr result (Stays self.old.plane self.new.plane) }
         ensures looks { self.new.looks ≡ self.old.looks }
         ensures turns { self.new.turns ≡ self.old.turns }
+        ensures marks { self.new.marks ≡ self.old.marks }
     {
         if !is_key(&self.store, key) {
             self.slots.idle(key);
@@ -322,89 +351,10 @@ impl Plane {
         ensures plane { self.new.plane ≡ self.old.plane }
         ensures looks { self.new.looks ≡ looks_with answer self.old.looks }
         ensures turns { self.new.turns ≡ self.old.turns }
+        ensures marks { self.new.marks ≡ self.old.marks }
     {
         if let StepOutcome::Looked { seen: _ } = answer {
             self.look_count = one_more(self.look_count);
         }
-    }
-
-    // The number of entries.
-    pub(crate) fn version(&self) -> u64
-        ensures count { result ≡ length self.now.plane.journal }
-        ensures kept { IsKept is_good self.now.plane }
-    {
-        self.store.version()
-    }
-
-    // Whether the controller of the slot works on its name.
-    pub(crate) fn is_key(&self, key: &SlotKey) -> bool
-        ensures { result ≡ is_key key.now (present self.now.plane) }
-    {
-        is_key(&self.store, key)
-    }
-
-    // The keys of a controller's pass, in order: those of the present state.
-    pub(crate) fn pass_keys(&self, controller: Controller) -> Result<Vec<SlotKey>, AllocError>
-        ensures { IfOk result (λ keys. keys.items ≡ keys_for controller (present self.now.plane)) }
-    {
-        let keys = keys_of(self.alloc, &self.store, controller)?;
-        Ok(keys)
-    }
-
-    // Whether the slot of the key holds something.
-    pub(crate) fn is_held(&self, key: &SlotKey) -> bool
-        ensures { result ≡ is_some (look_of key.now self.now.plane.slots) }
-    {
-        self.slots.find(key).is_some()
-    }
-
-    // Idles the slot of the key.
-    pub(crate) fn idle(&mut self, key: &SlotKey)
-        ensures plane { self.new.plane ≡ record self.old.plane { slots = idle_at key.now self.old.plane.slots } }
-        ensures looks { self.new.looks ≡ self.old.looks }
-        ensures turns { self.new.turns ≡ self.old.turns }
-    {
-        self.slots.idle(key);
-    }
-
-    // Counts a turn.
-    pub(crate) fn count_turn(&mut self)
-        ensures plane { self.new.plane ≡ self.old.plane }
-        ensures looks { self.new.looks ≡ self.old.looks }
-        ensures turns { self.new.turns ≡ one_more self.old.turns }
-    {
-        self.turn_count = one_more(self.turn_count);
-    }
-
-    // Whether the cursor stays at the key: it is one, and its slot holds something.
-    fn is_staying(&self, last: &SlotKey) -> bool
-        ensures { result ≡ stays self.now.plane last.now }
-    {
-        self.is_key(last) && self.is_held(last)
-    }
-
-    // The key that the cursor steps: its own where it stays, and else the next one.
-    pub(crate) fn picked(&self) -> Result<Option<SlotKey>, AllocError>
-        ensures ok { IfOk result (λ key. key ≡ picked self.now.plane self.now.plane.cursor) }
-        ensures kept { IsKept is_good self.now.plane }
-    {
-        match &self.cursor {
-            Some(last) => {
-                if self.is_staying(last) {
-                    return Ok(Some(last.copy(self.alloc)?));
-                }
-                Ok(next_key(self.alloc, &self.store, &self.cursor)?)
-            }
-            None => Ok(next_key(self.alloc, &self.store, &self.cursor)?),
-        }
-    }
-
-    // Moves the cursor to the key.
-    pub(crate) fn point(&mut self, key: SlotKey)
-        ensures plane { self.new.plane ≡ record self.old.plane { cursor = Some key } }
-        ensures looks { self.new.looks ≡ self.old.looks }
-        ensures turns { self.new.turns ≡ self.old.turns }
-    {
-        self.cursor = Some(key);
     }
 }

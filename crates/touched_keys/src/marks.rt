@@ -1,5 +1,7 @@
 //! The set of touched keys.
 ghost use Rattle.std.specs.Prelude.{◌≡◌, ◌≤◌, ◌<◌, [], true, false, length, OnOk, OnErr};
+ghost use Rattle.version_store.specs.Index.{AreInOrder};
+ghost use Rattle.resource_types.specs.contracts.names.SlotKeyOrd.TheImpl as slot_order;
 ghost use Rattle.resource_types.specs.Lookups.{state};
 ghost use Rattle.control_touches.specs.Touches.{is_touched_since};
 ghost use Rattle.touched_keys.specs.Marks.{is_collector, is_marked, is_touched_in, unmarked, IsTakenIn, IsMarkedMore, TouchesSame};
@@ -82,6 +84,14 @@ impl Marks {
             upto: 0,
             moved: false,
         }
+    }
+
+    /// The keys that are marked, in order.
+    pub fn rows(&self) -> &[Mark]
+        ensures all { result.now ≡ self.now.keys }
+        ensures ordered { AreInOrder (λ mark. mark.key) slot_order.ghosts.cmp self.now.keys }
+    {
+        self.keys.rows()
     }
 
     /// Whether the key is marked.

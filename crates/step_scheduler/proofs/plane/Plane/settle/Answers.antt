@@ -1,6 +1,6 @@
-use Rattle.std.proofs.Common.{arith}
-use Rattle.step_scheduler.proofs.Chains.{then_works}
-use Rattle.step_scheduler.proofs.Settling.{settling_starts, settling_ends, settling_goes, settling_falls, turns_fit, no_more, more_next}
+use Rattle.std.proofs.Common.{refl, arith}
+use Rattle.step_scheduler.proofs.Chains.{then_works, works_grow}
+use Rattle.step_scheduler.proofs.Settling.{settling_starts, settling_ends, settling_goes, settling_falls, turns_fit, no_more, more_next, turn_made, calm_ends}
 use Rattle.step_scheduler.proofs.Promising.{settles_well, keeps_tables}
 use Rattle.step_scheduler.proofs.plane.Plane.settle.Goals as goal
 
@@ -9,6 +9,7 @@ turns-init c = record {
   settling = settling_starts c.args.self.now.plane c.version-version.result c.version-version.ensures.kept c.version-version.ensures.count (omega arith);
   looks = omega arith;
   count = no_more _;
+  calm = λ h. record { none = refl; looks = refl; untouched = h };
 }
 
 pub turns-preserved : goal.turns-preserved
@@ -18,6 +19,11 @@ turns-preserved c = record {
       c.version-after.ensures.count (λ e. absurd (omega (arith, e, c.if-after-version.false))) (omega arith);
   looks = omega (arith, c.turns.invariant.looks, c.in_ok-turn.ensures.looks);
   count = more_next _ _ _ _ c.turns.invariant.count c.in_ok-turn.ensures.turns;
+  calm = λ h. absurd (
+      let made = turn_made c.turns.self.plane c.turn.new.self.plane c.turns.version c.version-after.result c.in_ok-turn.field-0 c.in_ok-turn.ensures.ok c.turns.invariant.settling.counted c.version-after.ensures.count in
+      let none = (c.in_ok-turn.ensures.calm (c.turns.invariant.calm h).untouched).0 in
+      let longer = (works_grow c.in_ok-turn.ensures.works).longer in
+      omega (arith, made, none, longer, c.turns.invariant.settling.counted, c.version-after.ensures.count, c.if-after-version.false));
 }
 
 pub turns-smaller : goal.turns-smaller
@@ -50,3 +56,13 @@ returns-then-after-version-clause-tables c = keeps_tables _ c.turns.invariant.se
 
 pub returns-then-after-version-clause-turns : goal.returns-then-after-version-clause-turns
 returns-then-after-version-clause-turns c = more_next _ _ _ _ c.turns.invariant.count c.in_ok-turn.ensures.turns
+
+pub returns-then-after-version-clause-untouched : goal.returns-then-after-version-clause-untouched
+returns-then-after-version-clause-untouched c =
+    let made = turn_made c.turns.self.plane c.turn.new.self.plane c.turns.version c.version-after.result c.in_ok-turn.field-0 c.in_ok-turn.ensures.ok c.turns.invariant.settling.counted c.version-after.ensures.count in
+    c.in_ok-turn.ensures.untouched (omega (arith, made, c.if-after-version.true))
+
+pub returns-then-after-version-clause-calm : goal.returns-then-after-version-clause-calm
+returns-then-after-version-clause-calm c = λ h.
+    let start = c.turns.invariant.calm h in
+    calm_ends c.args.self.now c.turns.self c.turn.new.self c.turns.turns start (c.in_ok-turn.ensures.calm start.untouched).1
