@@ -8,7 +8,7 @@ ghost use Rattle.control_rules.specs.Steps.{cursor_step_of};
 ghost use Rattle.control_promises.specs.Promises.{IsGoodSettle};
 ghost use Rattle.step_scheduler.specs.Counts.{more_by, looks_after, turns_after};
 ghost use Rattle.step_scheduler.specs.Planes.{Is, IsAtRest, IsSafeThroughout, RemovesUnusedAlone};
-ghost use Rattle.step_scheduler.specs.Touched.{is_touched, IsUntouched};
+ghost use Rattle.step_scheduler.specs.Touched.{is_touched, IsUntouched, TouchesByEntries};
 ghost use Rattle.step_scheduler.specs.Turns.{IsWorked, IsTurn, StaysCalm};
 
 use crate::plane::Plane;
@@ -170,6 +170,7 @@ impl Plane {
         ensures err { OnErr result (self.new.plane ≡ self.old.plane) }
         ensures looks { self.new.looks ≡ looks_after result self.old.looks }
         ensures turns { self.new.turns ≡ self.old.turns }
+        ensures touched { TouchesByEntries self.old self.new }
         ensures safe { IsSafeThroughout self.new.plane.journal }
         ensures unused { RemovesUnusedAlone self.new.plane.journal }
     {
