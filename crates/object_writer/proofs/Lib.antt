@@ -4,3 +4,4 @@ pub mod Left
 pub mod Published
 pub mod Splits
 pub mod Parts
+pub mod Told

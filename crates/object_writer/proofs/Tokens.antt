@@ -1,5 +1,6 @@
 -- What is written of objects and arrays, and of fields whose names rise.
 use Rattle.std.proofs.Common.{◌≡◌, ℕ, true, Option, Some, None, List, [], ◌∷◌, ◌++◌, refl, sym, ap, ◌∙◌, drop, map, get_or, length, ◌+◌, ◌<◌, ◌≤◌, ◌≢◌, append_assoc, append-nil}
+use Rattle.std.specs.Prelude.{slice_get}
 use Rattle.std.proofs.lemmas.List.{drop_more, drop_all}
 use Rattle.json.specs.Token.{Token, key, begin_object, end_object, begin_array, end_array}
 use Rattle.json.specs.Tree.{json_tokens, items_tokens, members_tokens}
@@ -9,6 +10,7 @@ use Rattle.serde_json.proofs.Texts.{print-outline}
 use Rattle.json_tree.specs.Tree.{data_of, items_data, table_data, names_rise, names_of}
 use Rattle.json_tree.specs.declared.value.Json.{Json, Arr}
 use Rattle.json_tree.proofs.Laws.{data_of-Arr, data_of-object}
+use Rattle.resource_types.proofs.Lists.{drop_at}
 use Rattle.resource_codec.specs.Reading.{Member}
 use Rattle.resource_codec.specs.Written.{Field, add_field, put_fields, object_of, array_field, object_field}
 use Rattle.resource_codec.proofs.InOrder.{add_fields, in_order}
@@ -127,6 +129,16 @@ pub array_behind : (k : List ℕ) (js : List Json) (ts : List Token) → js ≢ 
     → with_values js ((ts ++ key k ∷ []) ++ begin_array ∷ []) ++ end_array ∷ [] ≡ with_field k (array_field js) ts
 array_behind k js ts some = array_written js (ts ++ key k ∷ []) ∙ field_written k (Arr js) ts ∙ some_array k js ts some
 
+-- an array behind its name stands even where it is empty
+pub array_field_written : (k : List ℕ) (js : List Json) (ts : List Token)
+    → with_values js ((ts ++ key k ∷ []) ++ begin_array ∷ []) ++ end_array ∷ [] ≡ with_field k (Some (Arr js)) ts
+array_field_written k js ts = array_written js (ts ++ key k ∷ []) ∙ field_written k (Arr js) ts
+
+-- values one after another, and one more
+pub values_more : (js : List Json) (j : Json) (ts : List Token) → with_value j (with_values js ts) ≡ with_values (js ++ j ∷ []) ts
+values_more [] j ts = refl
+values_more (x ∷ js) j ts = values_more js j (with_value x ts)
+
 -- ---- the rest of a list
 
 left : {A : Type 0} (xs : List A) (i : ℕ) (x : A) → i < length xs → x ≡ get_or xs i x → drop i xs ≡ x ∷ drop (i + 1) xs
@@ -153,6 +165,10 @@ last_one es i ts end = ap (λ ys. with_members ys ts) (drop_all i es end)
 module _ {A : Type 0} (f : A → Json) (xs : List A) (i : ℕ) (ts : List Token) where
   pub next_form : (x : A) → i < length xs → x ≡ get_or xs i x → with_values (map f (drop (i + 1) xs)) (with_value (f x) ts) ≡ with_values (map f (drop i xs)) ts
   next_form x within is = ap (λ ys. with_values (map f ys) ts) (sym (left xs i x within is))
+
+  -- the next one by a look-up that finds it
+  pub next_found : (x : A) → slice_get xs i ≡ Some x → with_values (map f (drop (i + 1) xs)) (with_value (f x) ts) ≡ with_values (map f (drop i xs)) ts
+  next_found x at = ap (λ ys. with_values (map f ys) ts) (sym (drop_at xs i x at))
 
   pub last_form : length xs ≤ i → with_values (map f (drop i xs)) ts ≡ ts
   last_form end = ap (λ ys. with_values (map f ys) ts) (drop_all i xs end)

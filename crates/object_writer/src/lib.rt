@@ -5,14 +5,18 @@
 #![tactic(auto)]
 
 mod fields;
+mod lists;
 mod metadata;
 mod objects;
 mod pods;
+mod polls;
 mod statuses;
 mod targets;
 mod templates;
 mod text;
 mod values;
 
+pub use lists::write_list;
 pub use objects::write_object;
+pub use polls::write_poll;
 pub use text::JsonText;
