@@ -1,11 +1,11 @@
 -- Fields that are left out where they are empty.
-use Rattle.std.proofs.Common.{◌≡◌, ◌≢◌, ◌<◌, ◌^◌, ◌==◌, ◌+◌, ◌/◌, ◌%◌, ℕ, Bool, true, false, Option, Some, None, List, [], ◌∷◌, ◌++◌, map, length, refl, sym, ap, ◌∙◌, arith}
+use Rattle.std.proofs.Common.{◌≡◌, ◌≢◌, ◌<◌, ◌^◌, ◌==◌, ◌+◌, ◌%◌, ℕ, Bool, true, false, Some, None, List, [], ◌∷◌, ◌++◌, map, length, refl, ◌∙◌, arith}
 use Rattle.std.specs.Prelude.{decimal}
 use Rattle.std.proofs.lemmas.Fmt.{decimal_by_steps}
 use Rattle.json.specs.Token.{Token, key, begin_object, end_object}
 use Rattle.json_tree.specs.declared.value.Json.{Json, Bool as Truth, Nat, Str}
 use Rattle.json_tree.specs.declared.members.Table.{Table}
-use Rattle.resource_codec.specs.Written.{text_field, number_field, truth_field, texts_field, object_field, array_field, text_member, object_of}
+use Rattle.resource_codec.specs.Written.{text_field, number_field, truth_field, texts_field, object_field, array_field, text_member}
 use Rattle.object_writer.specs.Tokens.{with_value, with_field, with_members}
 use Rattle.object_writer.proofs.Tokens.{field_written, members_written, object_behind}
 

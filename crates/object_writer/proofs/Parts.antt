@@ -1,6 +1,5 @@
 -- The parts of a document: metadata that is empty or not, and the document around its spec.
 use Rattle.std.proofs.Common.{◌≡◌, ◌≢◌, ℕ, Option, Some, None, List, [], ◌∷◌, ◌++◌, map, codes, refl, sym, ap, ◌∙◌}
-use Rattle.std.specs.Prelude.{decimal}
 use Rattle.json.specs.Token.{Token, key, begin_object, end_object}
 use Rattle.json_tree.specs.declared.value.Json.{Json, Nat}
 use Rattle.json_tree.specs.declared.members.Table.{Table}
@@ -9,7 +8,7 @@ use Rattle.resource_types.specs.declared.specification.Template.{Template}
 use Rattle.resource_types.specs.declared.status.ObjectStatus.{ObjectStatus}
 use Rattle.resource_types.specs.Manifests.{api_version, kind_word}
 use Rattle.resource_codec.specs.Reading.{Member}
-use Rattle.resource_codec.specs.Written.{Field, Metadata, add_field, put_fields, text_field, texts_field, number_field, object_field, array_field, text_member, object_of, template_metadata, template_metadata_fields, metadata_fields, metadata_members, Document, document_fields, document_members, document_json}
+use Rattle.resource_codec.specs.Written.{Field, add_field, text_field, texts_field, number_field, object_field, array_field, text_member, object_of, template_metadata, template_metadata_fields, metadata_fields, metadata_members, Document, document_fields, document_members}
 use Rattle.resource_codec.specs.Objects.{object_metadata, object_document, status_json}
 use Rattle.resource_codec.proofs.InOrder.{add_fields, in_order}
 use Rattle.object_writer.specs.Tokens.{with_value, with_field, with_fields}

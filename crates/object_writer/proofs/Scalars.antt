@@ -1,5 +1,5 @@
 -- The token of each value that has no parts.
-use Rattle.std.proofs.Common.{◌≡◌, ℕ, Bool, List, [], ◌∷◌, ◌++◌, refl, sym, ap, ◌∙◌}
+use Rattle.std.proofs.Common.{◌≡◌, ℕ, Bool, List, [], ◌∷◌, ◌++◌, sym, ap}
 use Rattle.std.specs.Prelude.{decimal, ℤ}
 use Rattle.std.specs.Fmt.{signed_decimal}
 use Rattle.json.specs.Token as token

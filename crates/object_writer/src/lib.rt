@@ -19,4 +19,3 @@ mod values;
 pub use lists::write_list;
 pub use objects::write_object;
 pub use polls::write_poll;
-pub use text::JsonText;

@@ -1,8 +1,7 @@
-use Rattle.std.proofs.Common.{◌≡◌, ◌∙◌, ℕ, Bool, true, false, List, sym, ap}
+use Rattle.std.proofs.Common.{◌∙◌, Bool, sym, ap}
 use Rattle.std.specs.Prelude.{if◌then◌else◌, map, length}
 use Rattle.std.specs.Option.{option_copied}
 use Rattle.std.proofs.lemmas.Result.{on_ok_weaker}
-use Rattle.resource_types.specs.declared.names.Kind.TheVariants as kind
 use Rattle.resource_codec.specs.Written.{object_of}
 use Rattle.resource_codec.specs.Objects.{encoded}
 use Rattle.resource_codec.specs.Lists.{object_list, table_list}

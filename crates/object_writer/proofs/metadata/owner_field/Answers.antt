@@ -1,4 +1,4 @@
-use Rattle.std.proofs.Common.{◌≡◌, ◌≢◌, ◌∙◌, ◌∷◌, [], List, Some, None, sym, ap, codes}
+use Rattle.std.proofs.Common.{◌≢◌, ◌∙◌, ◌∷◌, [], sym, ap, codes}
 use Rattle.std.proofs.lemmas.Result.{on_ok_weaker}
 use Rattle.json_tree.specs.declared.value.Json.{Json}
 use Rattle.resource_codec.specs.Written.{array_field, object_of}

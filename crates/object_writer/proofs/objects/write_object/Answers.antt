@@ -1,4 +1,4 @@
-use Rattle.std.proofs.Common.{[], ap, ◌∙◌}
+use Rattle.std.proofs.Common.{ap, ◌∙◌}
 use Rattle.json.specs.Print.{print}
 use Rattle.resource_codec.specs.Objects.{encoded}
 use Rattle.object_writer.specs.Tokens.{with_value}

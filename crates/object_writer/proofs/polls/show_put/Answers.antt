@@ -1,9 +1,7 @@
-use Rattle.std.proofs.Common.{◌∙◌, ◌++◌, ◌∷◌, [], ap, refl, codes}
+use Rattle.std.proofs.Common.{◌∙◌, ap, refl, codes}
 use Rattle.std.proofs.lemmas.Result.{on_ok_weaker}
-use Rattle.json.specs.Token.{begin_object, end_object}
-use Rattle.resource_codec.specs.Written.{text_field}
 use Rattle.resource_codec.specs.Objects.{encoded}
-use Rattle.resource_codec.specs.Lists.{put_event_fields, put_event, put_type}
+use Rattle.resource_codec.specs.Lists.{put_event_fields, put_event}
 use Rattle.object_writer.specs.Tokens.{with_value, with_field}
 use Rattle.object_writer.proofs.Tokens.{object_written, field_written}
 use Rattle.object_writer.proofs.polls.show_put.Goals as goal
