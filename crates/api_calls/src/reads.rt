@@ -41,7 +41,12 @@ fn space_asked(alloc: Global, space: &str) -> Result<Option<Text>, AllocError>
 }
 
 /// The reply with a list.
-fn listed(alloc: Global, store: &Store<Object>, kind: Kind, space: Option<&Text>) -> Result<Reply, AllocError>
+fn listed(
+    alloc: Global,
+    store: &Store<Object>,
+    kind: Kind,
+    space: Option<&Text>,
+) -> Result<Reply, AllocError>
     ensures value { IfOk result
         (λ r. r ≡ reply_of 200 (data_of (list_of store.now.entries kind (option_copied space.entry)))) }
     ensures reply { IfOk result IsReply }
