@@ -1,15 +1,21 @@
 //! Lists, polls, and single objects.
-ghost use Rattle.std.specs.Prelude.{◌≡◌, length, IfOk};
+ghost use Rattle.std.specs.Prelude.{◌≡◌, ◌≤◌, length, IfOk};
+ghost use Rattle.std.specs.Option.{option_copied};
 ghost use Rattle.answers.specs.Answers.{Comes};
 ghost use Rattle.api_calls.specs.Calls as spec;
+ghost use Rattle.json_tree.specs.Tree.{data_of};
+ghost use Rattle.http_session.specs.Reply.{IsReply};
 ghost use Rattle.resource_codec.specs.Storable.{AreStorable};
+ghost use Rattle.resource_codec.specs.Views.{list_of, poll_of};
 ghost use Rattle.api_outcomes.specs.Outcomes.{IsFit};
+ghost use Rattle.api_outcomes.specs.Replies.{reply_of};
 
 use crate::lookups::there;
 use answers::{Stop, require};
-use api_outcomes::{Outcome, Refusal, reply_of, shown};
+use api_outcomes::{Outcome, Refusal, reply_in_bytes, shown};
+use http_session::Reply;
 use json_tree::Text;
-use resource_codec::{list_of, poll_json};
+use object_writer::{write_list, write_poll};
 use resource_types::{Kind, Object};
 use std::alloc::{AllocError, Global};
 use version_store::Store;
@@ -34,6 +40,38 @@ fn space_asked(alloc: Global, space: &str) -> Result<Option<Text>, AllocError>
     Ok(Some(Text::new(alloc, space)?))
 }
 
+/// The reply with a list.
+fn listed(
+    alloc: Global,
+    store: &Store<Object>,
+    kind: Kind,
+    space: Option<&Text>,
+) -> Result<Reply, AllocError>
+    ensures value { IfOk result
+        (λ r. r ≡ reply_of 200 (data_of (list_of store.now.entries kind (option_copied space.entry)))) }
+    ensures reply { IfOk result IsReply }
+{
+    let text = write_list(alloc, store, kind, space)?;
+    Ok(reply_in_bytes(200, text))
+}
+
+/// The reply with a poll.
+fn polled(
+    alloc: Global,
+    store: &Store<Object>,
+    kind: Kind,
+    space: Option<&Text>,
+    after: u64,
+) -> Result<Reply, AllocError>
+    requires { after ≤ length store.now.entries }
+    ensures value { IfOk result
+        (λ r. r ≡ reply_of 200 (data_of (poll_of store.now.entries kind (option_copied space.entry) after))) }
+    ensures reply { IfOk result IsReply }
+{
+    let text = write_poll(alloc, store, kind, space, after)?;
+    Ok(reply_in_bytes(200, text))
+}
+
 /// The list of a kind in a namespace, or in all where it is empty. `NoSuchPath` refuses a kind without paths of its own, here and below.
 #[tactic(auto, unfolding(crate::specs::Calls::listing))]
 pub fn listing(
@@ -48,8 +86,8 @@ pub fn listing(
 {
     require(is_served(kind), Refusal::NoSuchPath)?;
     let space = space_asked(alloc, space)?;
-    let list = list_of(alloc, store, kind, space.as_ref())?;
-    Ok(Outcome::only(reply_of(alloc, 200, &list)?))
+    let list = listed(alloc, store, kind, space.as_ref())?;
+    Ok(Outcome::only(list))
 }
 
 /// What changed among the objects of a kind in a namespace, or in all where it is empty, after a version. `BeyondNewest` refuses a version that the journal
@@ -70,8 +108,8 @@ pub fn polling(
     let newest = store.version();
     require(after <= newest, Refusal::BeyondNewest { after, newest })?;
     let space = space_asked(alloc, space)?;
-    let poll = poll_json(alloc, store, kind, space.as_ref(), after)?;
-    Ok(Outcome::only(reply_of(alloc, 200, &poll)?))
+    let poll = polled(alloc, store, kind, space.as_ref(), after)?;
+    Ok(Outcome::only(poll))
 }
 
 /// One object. `NotFound` refuses it where there is none.

@@ -1,5 +1,7 @@
-//! Replies, built as JSON values and written as their compact text.
+//! Replies, with the compact texts of JSON values.
 ghost use Rattle.std.specs.Prelude.{◌≡◌, ◌≢◌, ◌≤◌, IsTrue, IfOk};
+ghost use Rattle.serde_json.specs.Data.{Data};
+ghost use Rattle.serde_json.specs.Written.{compact_text};
 ghost use Rattle.json_tree.specs.Tree.{data_of, is_well_formed, depth_of};
 ghost use Rattle.http_session.specs.Reply.{IsReply, IsReplyCode};
 ghost use Rattle.api_status.specs.Status.{failure};
@@ -12,7 +14,7 @@ use api_paths::PathError;
 use api_status::{failure, success};
 use http_session::{Allow, Reply};
 use json_tree::{Json, Seq, write_json};
-use resource_codec::encode;
+use object_writer::write_object;
 use resource_types::Object;
 use std::alloc::{AllocError, Global};
 
@@ -41,6 +43,20 @@ pub fn reply_of(alloc: Global, code: u16, body: &Json) -> Result<Reply, AllocErr
     reply_with(alloc, code, Allow::None, body)
 }
 
+/// A reply of any code but 405, with a text that was written already.
+pub fn reply_in_bytes(code: u16, body: Vec<u8>) -> Reply
+    requires code { IsReplyCode code }
+    requires other { code ≢ 405 }
+    ensures value { (d : Data) → body.items ≡ compact_text d → result ≡ spec.reply_of code d }
+    ensures reply { IsReply result }
+{
+    Reply {
+        code,
+        allow: Allow::None,
+        body: Seq::from_vec(body),
+    }
+}
+
 /// A reply that shows an object.
 pub fn shown(alloc: Global, code: u16, object: &Object) -> Result<Reply, AllocError>
     requires shown { IsShown object.now }
@@ -49,8 +65,8 @@ pub fn shown(alloc: Global, code: u16, object: &Object) -> Result<Reply, AllocEr
     ensures value { IfOk result (λ r. r ≡ spec.shown code object.now) }
     ensures reply { IfOk result IsReply }
 {
-    let body = encode(alloc, object)?;
-    reply_of(alloc, code, &body)
+    let body = write_object(alloc, object)?;
+    Ok(reply_in_bytes(code, body))
 }
 
 /// The reply to a removal.
