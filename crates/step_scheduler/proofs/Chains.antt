@@ -1,8 +1,6 @@
 -- Rounds and turns as work: chains of steps, each made whole.
-use Rattle.std.proofs.Common.{◌≡◌, ℕ, zero, suc, ◌+◌, ◌-◌, ◌^◌, ◌<◌, ◌≤◌, nat_lt, Bool, true, false, cond, List, [], ◌∷◌, length, drop, get_or, Option, Some, None, refl, sym, ap, subst, ◌∙◌, arith}
+use Rattle.std.proofs.Common.{◌≡◌, ℕ, ◌+◌, ◌-◌, ◌^◌, ◌≤◌, nat_lt, Bool, true, false, cond, length, Option, Some, None, refl, sym, ap, subst, ◌∙◌, arith}
 use Rattle.std.specs.Option.{is_some}
-use Rattle.std.proofs.Math.Seq.{drop-cons}
-use Rattle.std.proofs.Common.{add-one}
 use Rattle.version_store.specs.State.{Grows}
 use Rattle.version_store.proofs.Growth.{grows_after, grows_not, grows_twice}
 use Rattle.resource_types.specs.declared.names.Controller.TheVariants as controller
@@ -13,7 +11,7 @@ use Rattle.control_rules.specs.declared.slots.StepOutcome.TheVariants as outcome
 use Rattle.control_rules.specs.Differences.{ObjectPlan}
 use Rattle.control_rules.specs.Slots.{is_key, Look, look_of, idle_at, Plane, present}
 use Rattle.control_rules.specs.Steps.{plan_of, drops, plans, writes, goes_on, step_of}
-use Rattle.control_rules.specs.Turns.{step_held, step_again, look_plan_write, round, rounds, pass, turn_of}
+use Rattle.control_rules.specs.Turns.{step_held, step_again, look_plan_write, round, pass, turn_of}
 use Rattle.control_rules.specs.Events.{Works}
 use Rattle.touched_keys.specs.Marks.{is_touched_in, IsTakenIn}
 use Rattle.control_rules.specs.Events.Works.{Rests, ThenSteps, ThenPoints, ThenDrops}
@@ -85,6 +83,9 @@ calm_same u v e marks looks = let journal : v.plane.journal ≡ u.plane.journal 
 pub calm_idles : (u v : PlaneView) (key : SlotKey) → v.plane ≡ record u.plane { slots = idle_at key u.plane.slots } → v.marks ≡ u.marks → v.looks ≡ u.looks → StaysCalm u v
 calm_idles u v key e marks looks = let journal : v.plane.journal ≡ u.plane.journal = ap (λ w. w.journal) e in record { journal = journal; touched = touches_as u v journal marks; looks = looks }
 
+pub calm_as : (u v : PlaneView) → v.plane ≡ u.plane → TouchesSame u v → v.looks ≡ u.looks → StaysCalm u v
+calm_as u v e touched looks = record { journal = ap (λ w. w.journal) e; touched = touched; looks = looks }
+
 -- where no key was touched, none is
 pub calm_touched : (u v : PlaneView) → StaysCalm u v → IsUntouched u → IsUntouched v
 calm_touched u v calm h key = calm.touched key ∙ h key
@@ -128,22 +129,6 @@ unfolding round
 round_is w a b c d key known p q r s =
     s ∙ ap (step_again key) (r ∙ ap (step_again key) (q ∙ ap (λ v. (step_of v key).plane) p))
     ∙ sym (ap (λ t. cond t (look_plan_write key w) w) known)
-
--- a round more
-pub rounds_next : (keys : List SlotKey) (i : ℕ) (key : SlotKey) (w v : Plane) → i < length keys → key ≡ get_or keys i key → v ≡ round key w
-    → rounds (drop (i + 1) keys) v ≡ rounds (drop i keys) w
-unfolding rounds
-rounds_next keys i key w v lt e is =
-    ap (rounds (drop (i + 1) keys)) (is ∙ ap (λ k. round k w) e)
-    ∙ sym (ap (λ ks. rounds ks w) (drop-cons keys i key lt ∙ ap (λ n. get_or keys i key ∷ drop n keys) (sym (add-one i))))
-
--- no round is left
-pub rounds_past : (keys : List SlotKey) (i : ℕ) (w : Plane) → length keys ≤ i → rounds (drop i keys) w ≡ w
-unfolding rounds
-rounds_past [] zero w le = refl
-rounds_past [] (suc i) w le = refl
-rounds_past (key ∷ keys) zero w le = absurd (omega arith)
-rounds_past (key ∷ keys) (suc i) w le = let le' : length keys ≤ i = omega arith in rounds_past keys i w le'
 
 -- ---- turns
 

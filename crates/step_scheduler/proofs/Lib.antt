@@ -4,6 +4,9 @@ pub mod Events
 pub mod Sets
 pub mod Chains
 pub mod Untouched
+pub mod OwnKeys
+pub mod Skipping
+pub mod Visits
 pub mod Settling
 pub mod Cursor
 pub mod Reporting

@@ -1,5 +1,5 @@
 -- Rounds of keys to which nothing is due: they idle the slot, and change nothing else.
-use Rattle.std.proofs.Common.{◌≡◌, ℕ, Bool, true, false, cond, List, [], ◌∷◌, length, Option, Some, None, Ordering, refl, sym, ap, subst, ◌∙◌}
+use Rattle.std.proofs.Common.{◌≡◌, Bool, true, false, cond, [], ◌∷◌, length, Option, Some, None, Ordering, refl, sym, ap, subst, ◌∙◌}
 use Rattle.std.specs.Option.{is_some}
 use Rattle.std.specs.Ordering.{is_eq}
 use Rattle.std.specs.declared.cmp.Ordering.TheVariants.{Less, Equal, Greater}
@@ -13,8 +13,8 @@ use Rattle.resource_types.specs.contracts.names.SlotKeyOrd.TheImpl.Laws as slot_
 use Rattle.control_rules.specs.Differences.{ObjectPlan}
 use Rattle.control_rules.specs.Next.{next_write}
 use Rattle.control_rules.specs.Slots.{is_key, Look, Slots, look_of, held, idle_at, Plane, present}
-use Rattle.control_rules.specs.Steps.{plan_of, looks, plans, writes, step_of}
-use Rattle.control_rules.specs.Turns.{step_held, step_again, look_plan_write, round, rounds}
+use Rattle.control_rules.specs.Steps.{plan_of, looks, plans, step_of}
+use Rattle.control_rules.specs.Turns.{step_held, step_again, look_plan_write, round}
 use Rattle.control_rules.proofs.SlotsHeld.{key_self, look_held, look_idle}
 use Rattle.control_rules.proofs.RoundJournal.{step_looks, step_goes}
 
@@ -102,16 +102,6 @@ round_calm w key calm = go (is_key key (present w)) refl
     go : (b : Bool) → is_key key (present w) ≡ b → round key w ≡ w
     go true known = round_idles w key known calm.due ∙ ap (λ (s : Slots). record w { slots = s }) (idle_none key w.slots calm.idle)
     go false off = ap (λ b. cond b (look_plan_write key w) w) off
-
--- and so do rounds of such keys
-pub data AreCalm (w : Plane) : List SlotKey → Type 0 where
-  NoMore : AreCalm w []
-  OneMore : {key : SlotKey} {keys : List SlotKey} → IsCalm w key → AreCalm w keys → AreCalm w (key ∷ keys)
-
-pub rounds_calm : (w : Plane) (keys : List SlotKey) → AreCalm w keys → rounds keys w ≡ w
-unfolding rounds
-rounds_calm w [] NoMore = refl
-rounds_calm w (key ∷ keys) (OneMore calm more) = ap (rounds keys) (round_calm w key calm) ∙ rounds_calm w keys more
 
 -- ---- what a round finds out
 

@@ -7,4 +7,5 @@ pub mod Planes
 pub mod Touched
 pub mod Causes
 pub mod Turns
+pub mod Passes
 pub mod Reported

@@ -9,13 +9,14 @@
 //! - At each position of the journal the Tables are safe, and what an entry removes wasn't used.
 //! - A turn that makes no entry leaves a quiet state, which is the final one; turns come to that, soon.
 //! - To a key that isn't touched nothing is due. A report touches the Revision of its name, and a clock that moves touches
-//!   Collectors.
+//!   Collectors. Turns look at touched keys alone, and no key is touched after a settle.
 //! - After a call that was out of memory, the plane is as before; turns keep what they wrote before.
 #![tactic(auto)]
 
 mod controllers;
 mod counts;
 mod held;
+mod passes;
 mod plane;
 mod refusals;
 mod reports;

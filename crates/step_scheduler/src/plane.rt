@@ -15,6 +15,7 @@ ghost use Rattle.step_scheduler.specs.Reported.{IsReport, Hears};
 ghost use Rattle.step_scheduler.specs.Planes.{Is, Steps, Stays, IsSafeThroughout, RemovesUnusedAlone};
 ghost use Rattle.step_scheduler.specs.Touched.{IsUntouched, IsRevisionKey, IsCollectorKey, TouchesSame, TouchesAtMost, TouchesByEntries};
 
+mod next;
 mod slots;
 mod touched;
 

@@ -1,6 +1,6 @@
 //! Rounds, passes and turns.
 ghost use Rattle.std.specs.Prelude.{◌≡◌, ◌↔◌, [], ◌≤◌, ◌<◌, ◌^◌, true, false, length, IfOk, OnOk, OnErr};
-ghost use Rattle.control_rules.specs.Turns.{step_again, round, rounds, pass, turn_of, IsSettle, KeepsTables};
+ghost use Rattle.control_rules.specs.Turns.{step_again, round, pass, turn_of, IsSettle, KeepsTables};
 ghost use Rattle.control_rules.specs.Quiet.{IsQuiet};
 ghost use Rattle.control_rules.specs.Slots.{all_keys, is_key, present};
 ghost use Rattle.control_rules.specs.Events.{Works};
@@ -62,27 +62,23 @@ impl Plane {
         Ok(())
     }
 
-    // A round of each of these keys.
-    fn rounds(&mut self, keys: &[SlotKey]) -> Result<(), AllocError>
-        ensures ok { OnOk result (self.new.plane ≡ rounds keys.now self.old.plane) }
-        ensures works { IsWorked self.old self.new }
-        ensures calm { IsUntouched self.old → StaysCalm self.old self.new }
-    {
-        for key in keys {
-            self.round(key)?;
-        }
-        Ok(())
-    }
-
-    // A round of each key of the controller, as they are when the pass begins.
+    // A round of each key of the controller, as they are when the pass begins. It visits those alone that are touched or
+    // whose slots hold something: rounds of the others change nothing.
     fn pass(&mut self, controller: Controller) -> Result<(), AllocError>
         ensures ok { OnOk result (self.new.plane ≡ pass controller self.old.plane) }
         ensures works { IsWorked self.old self.new }
         ensures calm { IsUntouched self.old → StaysCalm self.old self.new }
     {
-        let keys = self.pass_keys(controller)?;
-        self.rounds(&keys)?;
-        Ok(())
+        let mut last = None;
+        'visits: loop {
+            match self.next_visit(controller, &last)? {
+                Some(key) => {
+                    self.round(&key)?;
+                    last = Some(key);
+                }
+                None => return Ok(()),
+            }
+        }
     }
 
     // A pass of each controller.

@@ -1,7 +1,7 @@
 //! What turns and the cursor ask of a plane, and do to its slots.
 ghost use Rattle.std.specs.Prelude.{◌≡◌, length, is_some, Some, IfOk};
 ghost use Rattle.manifest_intake.specs.Good.{is_good};
-ghost use Rattle.control_rules.specs.Slots.{is_key, keys_for, look_of, idle_at, present};
+ghost use Rattle.control_rules.specs.Slots.{is_key, look_of, idle_at, present};
 ghost use Rattle.control_rules.specs.Steps.{stays, picked};
 ghost use Rattle.control_rules.specs.Facts.{IsKept};
 ghost use Rattle.step_scheduler.specs.Counts.{one_more};
@@ -9,8 +9,8 @@ ghost use Rattle.step_scheduler.specs.Counts.{one_more};
 use super::Plane;
 use crate::counts::one_more;
 use json_tree::Copied;
-use resource_types::{Controller, SlotKey};
-use slot_keys::{is_key, keys_of, next_key};
+use resource_types::SlotKey;
+use slot_keys::{is_key, next_key};
 use std::alloc::AllocError;
 
 impl Plane {
@@ -27,14 +27,6 @@ impl Plane {
         ensures { result ≡ is_key key.now (present self.now.plane) }
     {
         is_key(&self.store, key)
-    }
-
-    // The keys of a controller's pass, in order: those of the present state.
-    pub(crate) fn pass_keys(&self, controller: Controller) -> Result<Vec<SlotKey>, AllocError>
-        ensures { IfOk result (λ keys. keys.items ≡ keys_for controller (present self.now.plane)) }
-    {
-        let keys = keys_of(self.alloc, &self.store, controller)?;
-        Ok(keys)
     }
 
     // Whether the slot of the key holds something.

@@ -1,4 +1,4 @@
-use Rattle.std.proofs.Common.{refl, ◌∙◌, arith}
+use Rattle.std.proofs.Common.{refl, arith}
 use Rattle.step_scheduler.proofs.Chains.{then_works, works_grow}
 use Rattle.step_scheduler.proofs.Settling.{settling_starts, settling_ends, settling_goes, settling_falls, turns_fit, no_more, more_next, turn_made, calm_ends}
 use Rattle.step_scheduler.proofs.Promising.{settles_well, keeps_tables}
