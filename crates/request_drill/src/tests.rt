@@ -42,9 +42,9 @@ fn drills(rt: HostRuntime) -> Result<(), Fail> {
     let settings = standard_settings(alloc)?;
     let mut world = World::new(alloc, settings);
     assert_eq!(rt; drill(alloc, &mut world, 1, &mut first), DrillEnd::Done);
-    let lines = b"requests 7\nanswered 7\nrefused 0\njournal 8\ntables 0\nturns 6\nlooks 13\n";
+    let lines = b"requests 7\nanswered 7\nrefused 0\njournal 8\ntables 0\nturns 6\nlooks 14\n";
     assert_eq!(rt; first.bytes(), &lines[..]);
-    // Turns and looks are those of the call alone: nothing is touched any more, so each of three settles is one turn without a look.
+    // Turns and looks are those of the call alone: each of three settles is now one turn, which looks at no key: none is touched.
     assert_eq!(rt; drill(alloc, &mut world, 1, &mut second), DrillEnd::Done);
     let lines = b"requests 7\nanswered 7\nrefused 1\njournal 8\ntables 0\nturns 3\nlooks 0\n";
     assert_eq!(rt; second.bytes(), &lines[..]);
