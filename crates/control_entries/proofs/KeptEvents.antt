@@ -1,13 +1,13 @@
 -- A plane stays kept through each of its events, so each plane that is reached is kept.
-use Rattle.std.proofs.Common.{◌≡◌, ◌≢◌, ◌⊎◌, inl, inr, ℕ, ◌+◌, ◌≤◌, Bool, true, false, cond, [], ◌∷◌, ◌++◌, length, Option, Some, None, refl, sym, ap, ◌∙◌, subst, arith}
-use Rattle.std.specs.Prelude.{◌==◌, is_some}
+use Rattle.std.proofs.Common.{◌≡◌, ◌≢◌, ◌⊎◌, inl, inr, ℕ, ◌+◌, ◌≤◌, Bool, true, [], ◌∷◌, ◌++◌, length, Option, Some, None, refl, sym, ap, ◌∙◌, subst, arith}
+use Rattle.std.specs.Prelude.{is_some}
 use Rattle.version_store.specs.declared.write.Change.{Change}
 use Rattle.version_store.specs.declared.write.Change.TheVariants.{Put, Remove}
 use Rattle.version_store.specs.declared.write.Applied.{Applied}
 use Rattle.version_store.specs.declared.write.Applied.TheVariants as applied
 use Rattle.version_store.specs.declared.write.Expect.{Expect}
 use Rattle.version_store.specs.declared.write.Expect.TheVariants as expect
-use Rattle.version_store.specs.Apply.{IsMakeable, IsNoRemovalOfNothing, object_after, unexpected, first_case, with_entry}
+use Rattle.version_store.specs.Apply.{IsMakeable, IsNoRemovalOfNothing, object_after, with_entry}
 use Rattle.version_store.proofs.Growth.{state_at-all, state_at-grows, grows_by}
 use Rattle.version_store.proofs.Step.{put_stamped}
 use Rattle.resource_types.specs.declared.names.Kind.{Kind}
@@ -29,7 +29,7 @@ use Rattle.control_rules.specs.declared.settings.Settings.{Settings}
 use Rattle.control_rules.specs.declared.slots.Report.{Report}
 use Rattle.control_rules.specs.Standing.{key_at, standing}
 use Rattle.control_rules.specs.Differences.{ObjectPlan}
-use Rattle.control_rules.specs.Slots.{ObjectEntry, state_at, Plane, present, new_plane, answer_in, entry_in, last_in}
+use Rattle.control_rules.specs.Slots.{ObjectEntry, state_at, Plane, present, new_plane, answer_in, entry_in, last_in, newest_in}
 use Rattle.control_rules.specs.Steps.{after_write, present_write, client_write_of, health_of, report_plan, report_on, report_of}
 use Rattle.control_rules.specs.Lawful.{PutsObject, RemovesObject, RemovesRevision, Reports, MayPut, MayRemove, MayChange, MayWrite, IsLawfulAs, IsLawful}
 use Rattle.control_rules.specs.Facts.{IsKept}
@@ -37,6 +37,7 @@ use Rattle.control_rules.specs.Events.{Happens, Moves, Sets, Writes, Hears, Step
 use Rattle.control_rules.proofs.KeptPlanes.{points_kept, moves_kept, drops_kept}
 use Rattle.control_entries.proofs.Tests.{both}
 use Rattle.control_entries.proofs.Standing.{found_key, standing_found}
+use Rattle.control_entries.proofs.Made.{removed_stands, done_expected, done_changes}
 use Rattle.control_entries.proofs.LawfulEntries.{lawful_push}
 use Rattle.control_entries.proofs.Fitting.{lawful_fits}
 use Rattle.control_entries.proofs.KeptEntries.{kept_more}
@@ -44,29 +45,9 @@ use Rattle.control_entries.proofs.KeptSteps.{step_kept}
 
 -- ---- a write of a client or a reporter at the present moment
 
--- what is removed stands
-removed_stands : (e : Expect) (o : Option Object) (last : ℕ) → IsNoRemovalOfNothing {O = Object} e Remove → unexpected e o last ≡ None
-    → (x : Object) × (o ≡ Some x)
-removed_stands expect.Absent o last h u = absurd h
-removed_stands (expect.At v) None last h u = absurd cc
-removed_stands (expect.At v) (Some x) last h u = (x, refl)
-
 put_removes_none : (e : Expect) (o : Object) → IsNoRemovalOfNothing e (Put o)
 put_removes_none expect.Absent o = tt
 put_removes_none (expect.At v) o = tt
-
--- an answer of Done found what was expected
-done_expected : (e : Expect) (o : Option Object) (last version : ℕ) (b c : Option Applied) (d : Applied)
-    → first_case (unexpected e o last) b c d ≡ applied.Done version → (unexpected e o last ≡ None)
-done_expected expect.Absent None last version b c d h = refl
-done_expected expect.Absent (Some x) last version b c d h = absurd cc
-done_expected (expect.At v) None last version b c d h = absurd cc
-done_expected (expect.At v) (Some x) last version b c d h = go (v == last) h
-  where
-    go : (t : Bool) → first_case (cond t None (Some (applied.Stale last))) b c d ≡ applied.Done version
-        → cond t None (Some (applied.Stale last)) ≡ None
-    go true f = refl
-    go false f = absurd cc
 
 -- an object of a kind that clients write
 client_of : (o : Object) (k : Kind) → o.key.kind ≡ k → kind_of_body o.body ≡ k → is_some (client_kind k) ≡ true → is_of_client o ≡ true
@@ -96,6 +77,8 @@ module _ (is_good : Manifest → Bool) (w : Plane) (k : IsKept is_good w) where
         go (applied.Done version) e = kept_more w made w.slots refl is_good k
             (lawful_push w.journal made is_good w.settings k.lawful k.past
             (put_stamped object_item.ghosts stamp_alone_of spec_equivalence_of (find plan.key (state w.journal)) (length w.journal + 1) plan.key plan.change w.now makeable.key)
+            (done_changes (find plan.key (state w.journal)) (length w.journal + 1) (last_in w.journal plan.key) (newest_in w.journal) (length w.journal) version plan.guarded
+            plan.expect plan.change w.now (applied.Done (length w.journal + 1)) makeable.removal e)
             (lawful version e))
             k.ordered (λ q l f. (k.slots q l f, other l.key))
         go (applied.Same version) e = k
@@ -208,7 +191,7 @@ module _ (is_good : Manifest → Bool) (w : Plane) (k : IsKept is_good w) where
 module _ (is_good : Manifest → Bool) where
   pub sets_kept : (w : Plane) (settings : Settings) → w.journal ≡ [] → IsKept is_good w → IsKept is_good (record w { settings = settings })
   sets_kept w settings empty k = record {
-    lawful = subst (IsLawful is_good settings) (sym empty) (record { moments = λ i e f a b. absurd cc; stamps = tt; entries = λ n e a. absurd cc });
+    lawful = subst (IsLawful is_good settings) (sym empty) (record { moments = λ i e f a b. absurd cc; stamps = tt; changes = λ n e a. absurd cc; entries = λ n e a. absurd cc });
     past = k.past;
     clock = k.clock;
     ordered = k.ordered;
@@ -231,7 +214,7 @@ module _ (is_good : Manifest → Bool) where
 
   pub new_kept : (settings : Settings) → IsKept is_good (new_plane settings)
   new_kept settings = record {
-    lawful = record { moments = λ i e f a b. absurd cc; stamps = tt; entries = λ n e a. absurd cc };
+    lawful = record { moments = λ i e f a b. absurd cc; stamps = tt; changes = λ n e a. absurd cc; entries = λ n e a. absurd cc };
     past = omega arith;
     clock = omega arith;
     ordered = tt;

@@ -5,7 +5,7 @@ use Rattle.std.proofs.lemmas.Bool.{cases_lt}
 use Rattle.std.proofs.lemmas.Option.{slice_get_within}
 use Rattle.version_store.specs.Journal.{changes_guard, IsStamped}
 use Rattle.version_store.specs.Apply.{object_after}
-use Rattle.version_store.proofs.Growth.{state_at-grows, grows_by}
+use Rattle.version_store.proofs.Growth.{state_at-grows, state_at-all, grows_by}
 use Rattle.version_store.proofs.Journals.{AreStamped-push}
 use Rattle.version_store.proofs.Indexed.{entry_between}
 use Rattle.resource_types.specs.declared.names.SlotKey.{SlotKey}
@@ -19,7 +19,7 @@ use Rattle.resource_types.specs.Lookups.{Journal, find, state}
 use Rattle.control_rules.specs.declared.settings.Settings.{Settings}
 use Rattle.control_rules.specs.Next.{next_write}
 use Rattle.control_rules.specs.Slots.{ObjectEntry, state_at, is_key}
-use Rattle.control_rules.specs.Lawful.{moment_of, moment_at, PutsObject, RemovesObject, RemovesRevision, Reports, IsAlone, IsUnguarded, version_if, Controls, IsLawfulAs, IsLawful}
+use Rattle.control_rules.specs.Lawful.{moment_of, moment_at, PutsObject, RemovesObject, RemovesRevision, Reports, IsAlone, IsUnguarded, version_if, Controls, IsChange, IsLawfulAs, IsLawful}
 use Rattle.control_entries.proofs.Tests.{some_same}
 
 -- ---- what an entry more leaves as it is
@@ -108,24 +108,36 @@ module _ (j : Journal) (x : ObjectEntry) where
             is_e = ap (moment_at j) (let h = here in let one : length j ≡ suc i = omega arith in one)
                 ∙ ap moment_of (sym (get_push j x i (let h = here in omega arith)) ∙ at)
 
-    -- with an entry that is lawful, stamped and not before the last one
+    -- with an entry that is lawful, stamped, not before the last one, and a change of what stands
     pub lawful_push : IsLawful is_good settings j → moment_at j (length j) ≤ x.moment
-        → IsStamped object_item.ghosts (find x.key (state j)) (length j + 1) x.key x.object x.moment
+        → IsStamped object_item.ghosts (find x.key (state j)) (length j + 1) x.key x.object x.moment → IsChange (find x.key (state j)) x.object
         → IsLawfulAs is_good settings x.actor longer (length j) x → IsLawful is_good settings longer
-    lawful_push l le stamped last = record {
+    lawful_push l le stamped change last = record {
       moments = moments_push l le;
       stamps = AreStamped-push object_item.ghosts key_order.ghosts.cmp j x l.stamps stamped;
+      changes = λ n e at. changed n e at (cases_lt n (length j));
       entries = λ n e at. go n e at (cases_lt n (length j));
     }
       where
+        whole : state j ≡ state_at longer (length j)
+        whole = sym (state_at-all (λ (o : Object). o.key) key_order.ghosts.cmp j) ∙ state_push (length j) (omega arith)
+
+        here : (n : ℕ) (e : ObjectEntry) → slice_get longer n ≡ Some e → length j ≤ n → length j ≡ n
+        here n e at ge = let lt = slice_get_within longer n e at in let l = length-append j (x ∷ []) in omega arith
+
+        same : (n : ℕ) (e : ObjectEntry) → slice_get longer n ≡ Some e → length j ≤ n → x ≡ e
+        same n e at ge = some_same (sym (entry_between j [] x) ∙ ap (slice_get longer) (here n e at ge) ∙ at)
+
+        changed : (n : ℕ) (e : ObjectEntry) → slice_get longer n ≡ Some e → (n < length j) ⊎ (length j ≤ n)
+            → IsChange (find e.key (state_at longer n)) e.object
+        changed n e at (inl lt) = subst (λ st. IsChange (find e.key st) e.object) (state_push n (omega arith))
+            (l.changes n e (sym (get_push j x n lt) ∙ at))
+        changed n e at (inr ge) = subst (λ m. IsChange (find e.key (state_at longer m)) e.object) (here n e at ge)
+            (subst (λ (z : ObjectEntry). IsChange (find z.key (state_at longer (length j))) z.object) (same n e at ge)
+            (subst (λ st. IsChange (find x.key st) x.object) whole change))
+
         go : (n : ℕ) (e : ObjectEntry) → slice_get longer n ≡ Some e → (n < length j) ⊎ (length j ≤ n)
             → IsLawfulAs is_good settings e.actor longer n e
         go n e at (inl lt) = entry_push e.actor n e lt (l.entries n e (sym (get_push j x n lt) ∙ at))
-        go n e at (inr ge) = subst (λ m. IsLawfulAs is_good settings e.actor longer m e) here
-            (subst (λ (z : ObjectEntry). IsLawfulAs is_good settings z.actor longer (length j) z) same last)
-          where
-            here : length j ≡ n
-            here = let lt = slice_get_within longer n e at in let l = length-append j (x ∷ []) in omega arith
-
-            same : x ≡ e
-            same = some_same (sym (entry_between j [] x) ∙ ap (slice_get longer) here ∙ at)
+        go n e at (inr ge) = subst (λ m. IsLawfulAs is_good settings e.actor longer m e) (here n e at ge)
+            (subst (λ (z : ObjectEntry). IsLawfulAs is_good settings z.actor longer (length j) z) (same n e at ge) last)

@@ -22,12 +22,14 @@ use Rattle.control_rules.specs.declared.settings.Settings.{Settings}
 use Rattle.control_rules.specs.Differences.{ObjectPlan}
 use Rattle.control_rules.specs.Next.{next_write}
 use Rattle.control_rules.specs.Slots.{ObjectEntry, ObjectWrite, state_at, is_key, answer_in, entry_in, newest_in}
+use Rattle.control_rules.specs.Steps.{expect_of}
 use Rattle.control_rules.specs.Lawful.{moment_at, IsAlone, version_if, Controls, IsLawful}
-use Rattle.control_rules.proofs.Makeable.{write_makeable}
+use Rattle.control_rules.proofs.Makeable.{Makeable, write_makeable}
 use Rattle.control_entries.specs.Ground.{AreFitting}
 use Rattle.control_entries.specs.Due.{IsDue}
 use Rattle.control_entries.proofs.Due.{write_due}
 use Rattle.control_entries.proofs.Answers.{IsAnswered, Refused, DoneAt, IsRefusal, answered}
+use Rattle.control_entries.proofs.Made.{due_changes}
 use Rattle.control_entries.proofs.LawfulEntries.{get_push, moment_push, last_moment, lawful_push}
 
 -- a look of a key at so many entries and at that moment: it lies between two entries, no later than now, and no entry since is of the key
@@ -92,8 +94,13 @@ module _ (is_good : Manifest → Bool) (settings : Settings) (j : Journal) (now 
     lawful_made : find plan.key (state j) ≡ find plan.key (state_at j seen) → (plan.guarded ≡ true → newest_in j ≤ seen)
         → IsLawful is_good settings (j ++ made ∷ [])
     lawful_made looked newest = lawful_push j made is_good settings lawful past
-        (put_stamped object_item.ghosts stamp_alone_of spec_equivalence_of (find plan.key (state j)) (length j + 1) plan.key plan.change now (write_makeable settings key (state_at j seen) read_at plan planned).key)
+        (put_stamped object_item.ghosts stamp_alone_of spec_equivalence_of (find plan.key (state j)) (length j + 1) plan.key plan.change now makeable.key)
+        (due_changes (find plan.key (state j)) (length j + 1) plan.expect plan.change now (due.expects ∙ ap expect_of (sym looked)) makeable.removal
+        (λ x y put stands. due.changes x y put (sym looked ∙ stands)))
         (controls looked newest)
+      where
+        makeable : Makeable plan
+        makeable = write_makeable settings key (state_at j seen) read_at plan planned
 
     -- whatever the write is answered, the journal stays lawful
     pub write_lawful : IsLawful is_good settings (entries_after object_item.ghosts key_order.ghosts.cmp j (look_write now key seen read_at plan))

@@ -17,6 +17,7 @@ pub mod Sound
 pub mod Fitting
 pub mod Names
 pub mod Answers
+pub mod Made
 pub mod LawfulEntries
 pub mod LawfulWrites
 pub mod Rounds

@@ -16,7 +16,7 @@ use Rattle.resource_types.specs.declared.manifests.Manifest.{Manifest}
 use Rattle.resource_types.specs.contracts.item.ObjectItem.TheImpl as object_item
 use Rattle.resource_types.specs.Objects.{is_of_client, status_of}
 pub use Rattle.resource_types.specs.Objects.{owner_of, status_over}
-use Rattle.resource_types.specs.Spec.{stamped}
+use Rattle.resource_types.specs.Spec.{stamped, same_but_stamp}
 use Rattle.resource_types.specs.Manifests.{client_kind}
 pub use Rattle.resource_types.specs.Manifests.{asked_of}
 use Rattle.resource_types.specs.Lookups.{Journal, State, find, is_in_use, version_of}
@@ -131,6 +131,15 @@ pub record Controls (settings : Settings) (j : Journal) (n : ℕ) (e : ObjectEnt
   pub alone : IsAlone j e.seen n by
   pub guard : plan.guarded ≡ true → IsUnguarded j e.seen n
 
+-- ---- what is a change
+
+-- where the first stands, the second is a change: an object that isn't the same apart from its stamp, or a removal of what stands
+abbrev pub IsChange : Option Object → Option Object → Type 0
+IsChange None None = ⊥
+IsChange None (Some object) = Unit {0}
+IsChange (Some stands) None = Unit {0}
+IsChange (Some stands) (Some object) = same_but_stamp object stands ≡ false
+
 -- ---- lawful journals
 
 -- The manifests that are good are those that are valid, with defaults, and regular: the layers that know these rules say which.
@@ -141,8 +150,9 @@ module _ (is_good : Manifest → Bool) (settings : Settings) where
   IsLawfulAs Reporter j n e = IsPresent n e × Reports (state_at j n) e
   IsLawfulAs (Controller key) j n e = Controls settings j n e key
 
-  -- moments don't fall, each entry has its stamp, and each is lawful
+  -- moments don't fall, each entry has its stamp, each changes what stood under its key, and each is lawful
   pub record IsLawful (j : Journal) : Type 0 where
     pub moments : (i : ℕ) (e f : ObjectEntry) → slice_get j i ≡ Some e → slice_get j (i + 1) ≡ Some f → e.moment ≤ f.moment
     pub stamps : AreStamped j
+    pub changes : (n : ℕ) (e : ObjectEntry) → slice_get j n ≡ Some e → IsChange (find e.key (state_at j n)) e.object
     pub entries : (n : ℕ) (e : ObjectEntry) → slice_get j n ≡ Some e → IsLawfulAs e.actor j n e
