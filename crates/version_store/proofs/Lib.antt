@@ -11,4 +11,5 @@ pub mod Step
 pub mod Prefix
 pub mod Growth
 pub mod Standing
+pub mod Priors
 pub mod GuardLaws

@@ -1,5 +1,5 @@
 -- The index: lists of versions, in order of key.
-use Rattle.std.specs.Prelude.{◌≡◌, ℕ, suc, ◌+◌, ◌<◌, ◌≤◌, List, [], ◌∷◌, length, map, slice_get, slice_index, Bool, cond, Option, Some, None, Result, Ok, Err, insert, remove}
+use Rattle.std.specs.Prelude.{◌≡◌, ℕ, suc, ◌+◌, ◌<◌, ◌≤◌, List, [], ◌∷◌, ◌++◌, length, map, slice_get, slice_index, Bool, cond, Option, Some, None, Result, Ok, Err, insert, remove}
 use Rattle.std.proofs.Common.{set}
 use Rattle.std.specs.List.{All}
 use Rattle.std.specs.Vec.{vec_len, vec_capacity}
@@ -9,7 +9,7 @@ use Rattle.std.specs.declared.cmp.Ordering.TheVariants.{Less, Equal, Greater}
 use Rattle.version_store.specs.declared.item.Item.{Ghosts}
 use Rattle.version_store.specs.declared.write.Entry.{Entry}
 use Rattle.version_store.specs.State.{put, state, versions_of}
-use Rattle.version_store.specs.Journal.{entry_at_version, newest_guard, AreStamped}
+use Rattle.version_store.specs.Journal.{entry_at_version, last_version, newest_guard, AreStamped}
 
 -- a version, and the key of its entry
 abbrev pub Row : Type 0 → Type 0
@@ -37,6 +37,15 @@ module _ {O D K N A : Type 0} where
   -- the version of the last entry of every key that ever stood, in order of key
   abbrev pub last_rows : (K → K → Ordering) → List (Entry O D K N A) → List (Row K)
   last_rows cmp entries = rows_from cmp 0 [] entries
+
+  -- for each of these entries the version of the entry before it on its key, or 0, where `before` are before them
+  abbrev pub priors_from : (K → K → Ordering) → List (Entry O D K N A) → List (Entry O D K N A) → List ℕ
+  priors_from cmp before [] = []
+  priors_from cmp before (entry ∷ entries) = last_version cmp before entry.key ∷ priors_from cmp (before ++ entry ∷ []) entries
+
+  -- for each entry the version of the entry before it on its key, or 0
+  abbrev pub prior_versions : (K → K → Ordering) → List (Entry O D K N A) → List ℕ
+  prior_versions cmp entries = priors_from cmp [] entries
 
   -- the keys with that of an entry before them
   abbrev pub with_key : Option (Entry O D K N A) → List K → List K
@@ -117,11 +126,13 @@ module _ {O D K N A : Type 0} where
     pub versions : present ≡ versions_of item.stamp (state item.key cmp entries)
 
   -- what a store keeps: the index agrees with the journal, and there is memory for `spare` more entries
-  pub record IsIndexed {Z W V : Type 0} (item : Ghosts O D K N A) (cmp : K → K → Ordering) (entries : Vec (Entry O D K N A) Z) (lasts : Vec ℕ W) (present : Vec ℕ V) (newest spare : ℕ) : Type 0 where
+  pub record IsIndexed {Z W V U : Type 0} (item : Ghosts O D K N A) (cmp : K → K → Ordering) (entries : Vec (Entry O D K N A) Z) (lasts : Vec ℕ W) (present : Vec ℕ V) (priors : Vec ℕ U) (newest spare : ℕ) : Type 0 where
     pub stamped : AreStamped item cmp entries.items
     pub last_versions : lasts.items ≡ map row_version (last_rows cmp entries.items)
     pub present_versions : present.items ≡ versions_of item.stamp (state item.key cmp entries.items)
+    pub priors_before : priors.items ≡ prior_versions cmp entries.items
     pub guard : newest ≡ newest_guard item cmp entries.items
     pub room : vec_len entries + spare ≤ vec_capacity entries
     pub lasts_room : vec_len lasts + spare ≤ vec_capacity lasts
     pub present_room : vec_len present + spare ≤ vec_capacity present
+    pub priors_room : vec_len priors + spare ≤ vec_capacity priors

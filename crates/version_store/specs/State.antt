@@ -1,5 +1,5 @@
 -- The state: the objects that stand, in order of key.
-use Rattle.std.specs.Prelude.{◌≡◌, ℕ, ◌≤◌, List, [], ◌∷◌, length, take, map, Bool, cond, Option, Some, None}
+use Rattle.std.specs.Prelude.{◌≡◌, ℕ, ◌≤◌, List, [], ◌∷◌, length, take, map, slice_get, Bool, cond, Option, Some, None}
 use Rattle.std.specs.List.{filter}
 use Rattle.std.specs.Ordering.{is_eq, is_gt}
 use Rattle.std.specs.declared.cmp.Ordering.{Ordering}
@@ -67,6 +67,15 @@ module _ {O D K N A : Type 0} where
   -- the objects that stood after the first n entries
   abbrev pub state_at : (O → K) → (K → K → Ordering) → List (Entry O D K N A) → ℕ → List O
   state_at key_of cmp entries n = state key_of cmp (take n entries)
+
+  -- what stood under the entry's key after the first n entries, if there is an entry
+  abbrev pub standing_under : (O → K) → (K → K → Ordering) → List (Entry O D K N A) → ℕ → Option (Entry O D K N A) → Option O
+  standing_under key_of cmp entries n None = None
+  standing_under key_of cmp entries n (Some entry) = find key_of cmp entry.key (state_at key_of cmp entries n)
+
+  -- the object that the entry at a place replaced or removed: what stood under its key after the entries before it
+  abbrev pub replaced_at : (O → K) → (K → K → Ordering) → List (Entry O D K N A) → ℕ → Option O
+  replaced_at key_of cmp entries place = standing_under key_of cmp entries place (slice_get entries place)
 
 -- a journal that grew at its end, if at all
 pub record Grows {E : Type 0} (old new : List E) : Type 0 where

@@ -1,5 +1,5 @@
 //! Searches in lists of versions that are in order of key, and the versions on a kind.
-ghost use Rattle.std.specs.Prelude.{◌≡◌, ◌+◌, ◌-◌, ◌<◌, ◌≤◌, ◌^◌, Some, length, slice_get, slice_index, take, drop, map, cond, IfOk};
+ghost use Rattle.std.specs.Prelude.{◌≡◌, ◌+◌, ◌-◌, ◌<◌, ◌≤◌, ◌^◌, Some, [], ◌∷◌, ◌++◌, length, slice_get, slice_index, take, drop, map, cond, IfOk};
 ghost use Rattle.std.specs.Option.{option_copied};
 ghost use Rattle.std.specs.Vec.{vec_len, vec_capacity};
 ghost use Rattle.version_store.specs.State.{state, find, of_kind, in_span, versions_of};
@@ -195,6 +195,18 @@ pub fn put(versions: &mut Vec<u64>, place: Result<usize, usize>, version: u64)
                 unreachable!()
             }
         }
+    }
+}
+
+/// Adds a version behind the others. There is memory for it.
+pub fn append(versions: &mut Vec<u64>, version: u64)
+    requires { vec_len versions.old < vec_capacity versions.old }
+    ensures items { versions.new.items ≡ versions.old.items ++ version ∷ [] }
+    ensures len { vec_len versions.new ≡ vec_len versions.old + 1 }
+    ensures capacity { vec_capacity versions.old ≤ vec_capacity versions.new }
+{
+    if versions.push(version).is_err() {
+        unreachable!()
     }
 }
 

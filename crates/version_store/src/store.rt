@@ -1,7 +1,7 @@
 //! The store: a journal with an index beside it.
 ghost use Rattle.std.specs.Prelude.{◌≡◌, ◌+◌, ◌-◌, ◌<◌, ◌≤◌, ◌^◌, [], length, slice_get, OnOk, OnErr, IfOk};
 ghost use Rattle.std.specs.Option.{option_copied};
-ghost use Rattle.version_store.specs.State.{state, find, of_kind, in_span, behind, versions_of, Grows};
+ghost use Rattle.version_store.specs.State.{state, replaced_at, find, of_kind, in_span, behind, versions_of, Grows};
 ghost use Rattle.version_store.specs.Journal.{last_version, entry_at_version, changes, stamp_after, AreStamped};
 ghost use Rattle.version_store.specs.Apply.{answer_to, entries_after, spare_after, PutsItsKey, IsNoRemovalOfNothing};
 
@@ -25,6 +25,8 @@ pub struct Store<O: Item> {
     lasts: Vec<u64>,
     // The versions of the objects that stand, in order of key.
     present: Vec<u64>,
+    // For each entry the version of the entry before it on its key, or 0.
+    priors: Vec<u64>,
     // The version of the last entry that made a guarding object or changed its spec, or 0.
     newest_guard: u64,
     spare: usize,
@@ -39,7 +41,7 @@ impl<O: Item> Model for Store<O> {
 
     ghost view = { λ s. record { entries = s.entries.items; spare = s.spare } };
 
-    ghost invariant = { λ s. IsIndexed O.Item O.Key.cmp s.entries s.lasts s.present s.newest_guard s.spare };
+    ghost invariant = { λ s. IsIndexed O.Item O.Key.cmp s.entries s.lasts s.present s.priors s.newest_guard s.spare };
 }
 
 impl<O: Item> Store<O> {
@@ -52,6 +54,7 @@ impl<O: Item> Store<O> {
             entries: Vec::new(alloc),
             lasts: Vec::new(alloc),
             present: Vec::new(alloc),
+            priors: Vec::new(alloc),
             newest_guard: 0,
             spare: 0,
         }
@@ -80,6 +83,15 @@ impl<O: Item> Store<O> {
             return None;
         }
         self.entries.get(version as usize - 1)
+    }
+
+    /// The object that the entry at a place, counted from 0, replaced or removed: the one that stood under the entry's key
+    /// before it. It takes no search.
+    pub fn replaced(&self, place: usize) -> Option<&O>
+        requires { place < length self.now.entries }
+        ensures { option_copied result ≡ replaced_at O.key O.Key.cmp self.now.entries place }
+    {
+        self.entry(self.priors[place])?.object.as_ref()
     }
 
     /// The object of the key, if one stands.
@@ -184,6 +196,7 @@ impl<O: Item> Store<O> {
             self.entries.reserve(1)?;
             self.lasts.reserve(1)?;
             self.present.reserve(1)?;
+            self.priors.reserve(1)?;
             self.spare = 1;
         }
         Ok(())
@@ -215,6 +228,7 @@ impl<O: Item> Store<O> {
                 object.is_some(),
                 version,
             );
+            index::append(&mut self.priors, of_key.last);
             self.spare -= 1;
             match self.entries.push(entry) {
                 Ok(()) => {}

@@ -3,9 +3,10 @@ use Rattle.std.specs.Option.{option_copied, is_some}
 use Rattle.version_store.specs.State.{state, find, versions_of}
 use Rattle.version_store.specs.Journal.{GenerationBelow, AreStamped, changes_guard, newest_guard, last_version}
 use Rattle.version_store.specs.Apply.{answer_to, entry_for, with_entry}
-use Rattle.version_store.specs.Index.{row_key, row_version, last_rows, search_in, put_at, removed_at}
+use Rattle.version_store.specs.Index.{row_key, row_version, last_rows, prior_versions, search_in, put_at, removed_at}
 use Rattle.version_store.proofs.States.{generation_below}
 use Rattle.version_store.proofs.Step.{IsNext, next_index, answer_is, not_entry, not_spare}
+use Rattle.version_store.proofs.Priors.{priors-push}
 use Rattle.version_store.proofs.Growth.{grows_not}
 use Rattle.version_store.proofs.store.Store.apply.Goals as goal
 
@@ -44,6 +45,11 @@ invariant_of-self g c =
           c.change.ensures.items
           ∙ ap (λ b. cond b (put_at (c.len.result + 1) inside.present.items c.of_key-of_key.result.among_present) (removed_at inside.present.items c.of_key-of_key.result.among_present)) stands
           ∙ next.present_versions ∙ ap (λ es. versions_of item.stamp (state item.key cmp es)) (sym items);
+      priors_before =
+          c.append.ensures.items
+          ∙ priors-push cmp entries entry inside.priors.items key c.of_key-of_key.result.last c.self.invariant.priors_before (ap (λ e. e.key) c.entry_of-entry.ensures)
+          (c.of_key-of_key.ensures.last ∙ ap (λ es. last_version cmp es key) c.deref.ensures.value)
+          ∙ ap (prior_versions cmp) (sym items);
       guard =
           c.newest_after-self-inside.ensures
           ∙ ap (λ o. cond (changes_guard item (option_copied c.of_key-of_key.result.standing) o) (c.len.result + 1) inside.newest_guard) c.as_ref-object.ensures.value
@@ -51,6 +57,7 @@ invariant_of-self g c =
       room = omega (arith, ap (λ v. v.spare) c.self.view_is, c.requires.spare, c.self.invariant.room, c.in-Ok.ensures.len, c.in-Ok.ensures.capacity);
       lasts_room = omega (arith, ap (λ v. v.spare) c.self.view_is, c.requires.spare, c.self.invariant.lasts_room, c.put.ensures.len, c.put.ensures.capacity);
       present_room = omega (arith, ap (λ v. v.spare) c.self.view_is, c.requires.spare, c.self.invariant.present_room, c.change.ensures.len, c.change.ensures.capacity);
+      priors_room = omega (arith, ap (λ v. v.spare) c.self.view_is, c.requires.spare, c.self.invariant.priors_room, c.append.ensures.len, c.append.ensures.capacity);
     }
 
 pub returns-in_default : goal.returns-in_default
