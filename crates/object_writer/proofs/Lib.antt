@@ -3,5 +3,7 @@ pub mod Scalars
 pub mod Left
 pub mod Published
 pub mod Splits
+pub mod Puts
+pub mod LabelsLemmas
 pub mod Parts
 pub mod Told

@@ -3,16 +3,17 @@ use Rattle.std.proofs.Common.{◌≡◌, ◌≢◌, ℕ, Option, Some, None, Lis
 use Rattle.json.specs.Token.{Token, key, begin_object, end_object}
 use Rattle.json_tree.specs.declared.value.Json.{Json, Nat}
 use Rattle.json_tree.specs.declared.members.Table.{Table}
+use Rattle.resource_types.specs.declared.objects.Body.{Body}
 use Rattle.resource_types.specs.declared.objects.Object.{Object}
 use Rattle.resource_types.specs.declared.specification.Template.{Template}
 use Rattle.resource_types.specs.declared.status.ObjectStatus.{ObjectStatus}
 use Rattle.resource_types.specs.Manifests.{api_version, kind_word}
 use Rattle.resource_codec.specs.Reading.{Member}
 use Rattle.resource_codec.specs.Written.{Field, add_field, text_field, texts_field, number_field, object_field, array_field, text_member, object_of, template_metadata, template_metadata_fields, metadata_fields, metadata_members, Document, document_fields, document_members}
-use Rattle.resource_codec.specs.Objects.{object_metadata, object_document, status_json}
+use Rattle.resource_codec.specs.Objects.{object_metadata, object_document, status_json, body_json, encoded}
 use Rattle.resource_codec.proofs.InOrder.{add_fields, in_order}
 use Rattle.object_writer.specs.Tokens.{with_value, with_field, with_fields}
-use Rattle.object_writer.specs.Documents.{head_fields}
+use Rattle.object_writer.specs.Documents.{body_labels, body_annotations, head_fields}
 use Rattle.object_writer.proofs.Tokens.{object_written, field_written}
 
 -- ---- members that were added
@@ -115,19 +116,23 @@ object_absent = no_members
 
 -- ---- the document
 
--- the head, the spec and the tail of a document are its object
-pub document_written : (o : Object) (labels annotations : Table (List ℕ)) (spec : List Member) (status : ObjectStatus) (ts : List Token)
-    → with_field (codes "status") (Some (status_json status)) (with_value (object_of spec) (with_fields (head_fields o labels annotations) (ts ++ begin_object ∷ []) ++ key (codes "spec") ∷ [])) ++ end_object ∷ []
-    ≡ with_value (object_document o labels annotations spec status) ts
+-- the head, the spec and the tail of a document are its object, where that shows the object's labels and annotations
+pub document_written : (o : Object) (b : Body) (spec : List Member) (status : ObjectStatus) (ts : List Token) → o.body ≡ b
+    → object_document o (body_labels o b) (body_annotations o b) spec status ≡ body_json o b
+    → with_field (codes "status") (Some (status_json status)) (with_value (object_of spec) (with_fields (head_fields o) (ts ++ begin_object ∷ []) ++ key (codes "spec") ∷ [])) ++ end_object ∷ []
+    ≡ with_value (encoded o) ts
 unfolding document_members
-document_written o labels annotations spec status ts =
-    let head = with_fields (head_fields o labels annotations) (ts ++ begin_object ∷ []) in
+document_written o b spec status ts is shown =
+    let head = with_fields (head_fields o) (ts ++ begin_object ∷ []) in
     let d : Document = record {
       api = api_version;
       kind = kind_word o.key.kind;
-      metadata = metadata_members (object_metadata o labels annotations);
+      metadata = metadata_members (object_metadata o (body_labels o o.body) (body_annotations o o.body));
       spec = spec;
       status = Some (status_json status);
     } in
     ap (λ x. with_field (codes "status") (Some (status_json status)) x ++ end_object ∷ []) (field_written (codes "spec") (object_of spec) head)
     ∙ object_written (document_fields d) ts refl
+    ∙ ap (λ x. with_value (object_document o (body_labels o x) (body_annotations o x) spec status) ts) is
+    ∙ ap (λ j. with_value j ts) shown
+    ∙ ap (λ x. with_value (body_json o x) ts) (sym is)

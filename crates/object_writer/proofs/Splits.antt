@@ -14,7 +14,8 @@ use Rattle.json_tree.proofs.Facts.{less_of}
 use Rattle.json_tree.proofs.Rising.{after-push}
 use Rattle.resource_codec.specs.Reading.{Member}
 use Rattle.resource_codec.specs.Written.{put_field, number_field}
-use Rattle.object_writer.specs.Tokens.{with_field, with_members, begins_before, members_behind, WritesUpTo}
+use Rattle.object_writer.specs.Places.{begins_before, entries_behind}
+use Rattle.object_writer.specs.Tokens.{with_field, with_members, WritesUpTo}
 
 -- ---- members one after another
 
@@ -34,19 +35,16 @@ not_before_of Less e = cc
 not_before_of Equal e = refl
 not_before_of Greater e = refl
 
-module _ (es : List Member) (i : ℕ) (e : Member) (within : i < length es) (is : e ≡ get_or es i e) where
+module _ {A : Type 0} (es : List (List ℕ × A)) (i : ℕ) (e : List ℕ × A) (within : i < length es) (is : e ≡ get_or es i e) where
   taken : take (i + 1) es ≡ take i es ++ e ∷ []
   taken = take_more es i e within ∙ ap (λ x. take i es ++ x ∷ []) (sym is)
 
-  pub one_written : (ts : List Token) → with_field e.0 (Some e.1) (with_members (take i es) ts) ≡ with_members (take (i + 1) es) ts
-  one_written ts = sym (ap (λ xs. with_members xs ts) taken ∙ members_joined (take i es) (e ∷ []) ts)
-
   pub one_before : (name : List ℕ) → is_lt (slice_cmp nat_cmp e.0 name) ≡ true → is_after_all name (names_of (take i es)) ≡ true
       → is_after_all name (names_of (take (i + 1) es)) ≡ true
-  one_before name lt before = subst (λ (xs : List Member). is_after_all name (names_of xs) ≡ true) (sym taken) (after-push name e.0 e.1 (take i es) before lt)
+  one_before name lt before = subst (λ (xs : List (List ℕ × A)). is_after_all name (names_of xs) ≡ true) (sym taken) (after-push name e.0 e.1 (take i es) before lt)
 
   pub first_behind : (name : List ℕ) → is_lt (slice_cmp nat_cmp e.0 name) ≡ false → begins_before name (drop i es) ≡ false
-  first_behind name not = subst (λ (xs : List Member). begins_before name xs ≡ false) (sym (drop_more es i e within ∙ ap (λ y. y ∷ drop (i + 1) es) (sym is))) not
+  first_behind name not = subst (λ (xs : List (List ℕ × A)). begins_before name xs ≡ false) (sym (drop_more es i e within ∙ ap (λ y. y ∷ drop (i + 1) es) (sym is))) not
 
 -- ---- the field goes behind what comes before it
 
@@ -61,7 +59,7 @@ reverse_eq Less = refl
 reverse_eq Equal = refl
 reverse_eq Greater = refl
 
-put_first : (k : List ℕ) (j : Json) (es : List Member) → begins_before k es ≡ false → put_entry k j es ≡ (k, j) ∷ members_behind k es
+put_first : (k : List ℕ) (j : Json) (es : List Member) → begins_before k es ≡ false → put_entry k j es ≡ (k, j) ∷ entries_behind k es
 put_first k j [] not = refl
 put_first k j (e ∷ es) not =
     let o = slice_cmp nat_cmp k e.0 in
@@ -95,11 +93,11 @@ nothing_put k es ts = record { written = []; all = refl; tokens = refl; before =
 
 -- what comes before the field is written, and the field
 pub put_between : (k : List ℕ) (j : Json) (w es : List Member) (ts : List Token) → is_after_all k (names_of w) ≡ true → begins_before k es ≡ false
-    → WritesUpTo k (Some j) (w ++ es) (members_behind k es) ts (with_field k (Some j) (with_members w ts))
+    → WritesUpTo k (Some j) (w ++ es) (entries_behind k es) ts (with_field k (Some j) (with_members w ts))
 unfolding put_field
 put_between k j w es ts after not = record {
   written = w ++ (k, j) ∷ [];
-  all = put_past k j w es after ∙ ap (λ xs. w ++ xs) (put_first k j es not) ∙ sym (append_assoc w ((k, j) ∷ []) (members_behind k es));
+  all = put_past k j w es after ∙ ap (λ xs. w ++ xs) (put_first k j es not) ∙ sym (append_assoc w ((k, j) ∷ []) (entries_behind k es));
   tokens = sym (members_joined w ((k, j) ∷ []) ts);
   before = λ later lt. after-push later k j w (after_later k later (names_of w) lt after) lt;
 }
@@ -115,6 +113,11 @@ both_put k l o p es first second ts mid end lt u v =
     ∙ ap (λ xs. with_members xs ts)
     (ap (λ xs. u.written ++ xs) (sym v.all) ∙ sym (field_past l p u.written first (u.before l lt)) ∙ ap (put_field l p) (sym u.all))
 
+-- what is left is written behind one field
+pub one_put : (k : List ℕ) (o : Option Json) (es left : List Member) (ts mid : List Token) → WritesUpTo k o es left ts mid
+    → with_members left mid ≡ with_members (put_field k o es) ts
+one_put k o es left ts mid u = ap (with_members left) u.tokens ∙ sym (members_joined u.written left ts) ∙ ap (λ xs. with_members xs ts) (sym u.all)
+
 -- ---- a number among members
 
 pub no_number : (k : List ℕ) (n : Option ℕ) (es : List Member) (ts : List Token) → is_some n ≡ false → WritesUpTo k (number_field n) es es ts ts
@@ -124,12 +127,12 @@ no_number k (Some v) es ts e = absurd cc
 
 pub number_put : (k : List ℕ) (n : Option ℕ) (es left : List Member) (i : ℕ) (ts mid end : List Token) → is_some n ≡ true
     → mid ≡ with_members (take i es) ts → is_after_all k (names_of (take i es)) ≡ true → begins_before k (drop i es) ≡ false
-    → end ≡ with_field k (number_field n) mid → left ≡ members_behind k (take (length es - i) (drop i es))
+    → end ≡ with_field k (number_field n) mid → left ≡ entries_behind k (take (length es - i) (drop i es))
     → WritesUpTo k (number_field n) es left ts end
 unfolding number_field
 number_put k None es left i ts mid end e before after not behind rest = absurd cc
 number_put k (Some v) es left i ts mid end e before after not behind rest =
     subst (λ (xs : List Member). WritesUpTo k (Some (Nat v)) xs left ts end) (take-append-drop i es)
-    (subst (λ (xs : List Member). WritesUpTo k (Some (Nat v)) (take i es ++ drop i es) xs ts end) (sym (rest ∙ ap (members_behind k) (take_rest es i)))
-    (subst (λ (xs : List Token). WritesUpTo k (Some (Nat v)) (take i es ++ drop i es) (members_behind k (drop i es)) ts xs)
+    (subst (λ (xs : List Member). WritesUpTo k (Some (Nat v)) (take i es ++ drop i es) xs ts end) (sym (rest ∙ ap (entries_behind k) (take_rest es i)))
+    (subst (λ (xs : List Token). WritesUpTo k (Some (Nat v)) (take i es ++ drop i es) (entries_behind k (drop i es)) ts xs)
     (sym (behind ∙ ap (with_field k (Some (Nat v))) before)) (put_between k (Nat v) (take i es) (drop i es) ts after not)))

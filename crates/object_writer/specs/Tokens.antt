@@ -1,5 +1,5 @@
 -- The tokens that are written of JSON values, and of the fields of an object, behind those that stand.
-use Rattle.std.specs.Prelude.{◌≡◌, ◌++◌, ℕ, Bool, true, false, List, [], ◌∷◌, Option, Some, None, bytes_eq, if◌then◌else◌}
+use Rattle.std.specs.Prelude.{◌≡◌, ◌++◌, ℕ, true, List, [], ◌∷◌, Option, Some, None}
 use Rattle.std.specs.Ordering.{nat_cmp, is_lt}
 use Rattle.std.specs.Cmp.Lexicographic.{slice_cmp}
 use Rattle.json.specs.Token.{Token, key}
@@ -39,16 +39,6 @@ with_members [] ts = ts
 with_members (e ∷ es) ts = with_members es (with_field e.0 (Some e.1) ts)
 
 -- ---- members that are written up to a name
-
--- whether the first of the members comes before the name
-abbrev pub begins_before : List ℕ → List Member → Bool
-begins_before name [] = false
-begins_before name (e ∷ es) = is_lt (slice_cmp nat_cmp e.0 name)
-
--- the members without the first one, if that has the name
-abbrev pub members_behind : List ℕ → List Member → List Member
-members_behind name [] = []
-members_behind name (e ∷ es) = if bytes_eq e.0 name then es else e ∷ es
 
 -- of the members with a field put among them, all up to the field are written, and the others are left
 pub record WritesUpTo (name : List ℕ) (field : Option Json) (members left : List Member) (old new : List Token) : Type 0 where

@@ -1,7 +1,7 @@
 //! Fields of an object, which are left out where they are empty.
-ghost use Rattle.std.specs.Prelude.{◌≡◌, Some, OnOk, decimal};
-ghost use Rattle.resource_codec.specs.Written.{text_field, number_field, truth_field, texts_field};
-ghost use Rattle.object_writer.specs.Tokens.{with_field};
+ghost use Rattle.std.specs.Prelude.{◌≡◌, Some, OnOk, decimal, map};
+ghost use Rattle.resource_codec.specs.Written.{text_field, number_field, truth_field, texts_field, text_member};
+ghost use Rattle.object_writer.specs.Tokens.{with_field, with_members};
 
 use crate::text::JsonText;
 use json_tree::{Table, Text};
@@ -54,6 +54,17 @@ impl JsonText {
         }
     }
 
+    /// Writes texts under their names.
+    pub fn texts(&mut self, texts: &[(Text, Text)]) -> Result<(), AllocError>
+        ensures { OnOk result (self.new ≡ with_members (map text_member texts.now) self.old) }
+    {
+        for text in texts {
+            self.name(text.0.as_str())?;
+            self.text(text.1.as_str())?;
+        }
+        Ok(())
+    }
+
     /// Writes an object of texts that isn't empty. Its texts stand as they are, the empty ones too.
     pub fn texts_field(&mut self, name: &str, texts: &Table<Text>) -> Result<(), AllocError>
         ensures { OnOk result (self.new ≡ with_field name.now (texts_field texts.now) self.old) }
@@ -63,10 +74,7 @@ impl JsonText {
         }
         self.name(name)?;
         self.open_object()?;
-        for text in texts.entries() {
-            self.name(text.0.as_str())?;
-            self.text(text.1.as_str())?;
-        }
+        self.texts(texts.entries())?;
         self.close_object()
     }
 }

@@ -5,12 +5,15 @@
 #![tactic(auto)]
 
 mod fields;
+mod labels;
 mod lists;
 mod metadata;
 mod objects;
+mod places;
 mod pods;
 mod polls;
 mod statuses;
+mod tables;
 mod targets;
 mod templates;
 mod text;

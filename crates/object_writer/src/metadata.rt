@@ -3,10 +3,12 @@ ghost use Rattle.std.specs.Prelude.{◌≡◌, codes, OnOk};
 ghost use Rattle.resource_codec.specs.Written.{object_of, object_field, array_field, metadata_members};
 ghost use Rattle.resource_codec.specs.Objects.{owner_members, owners_of, object_metadata};
 ghost use Rattle.object_writer.specs.Tokens.{with_value, with_field};
+ghost use Rattle.object_writer.specs.Documents.{body_labels, body_annotations};
 
+use crate::labels::{annotations_field, labels_field};
 use crate::statuses::shown_moment;
 use crate::text::JsonText;
-use resource_types::{Labels, Object, Owner, api_version};
+use resource_types::{Object, Owner, api_version};
 use serve_names::uid_text;
 use std::alloc::{AllocError, Global};
 
@@ -37,26 +39,20 @@ fn owner_field(alloc: Global, out: &mut JsonText, owner: &Option<Owner>) -> Resu
     }
 }
 
-/// Writes the metadata of an object, with the labels and annotations that are given.
-pub fn metadata_field(
-    alloc: Global,
-    out: &mut JsonText,
-    object: &Object,
-    labels: &Labels,
-    annotations: &Labels,
-) -> Result<(), AllocError>
-    ensures { OnOk result (out.new ≡ with_field (codes "metadata")
-        (object_field (metadata_members (object_metadata object.now labels.now annotations.now))) out.old) }
+/// Writes the metadata of an object.
+pub fn metadata_field(alloc: Global, out: &mut JsonText, object: &Object) -> Result<(), AllocError>
+    ensures { OnOk result (out.new ≡ with_field (codes "metadata") (object_field (metadata_members (object_metadata object.now
+        (body_labels object.now object.now.body) (body_annotations object.now object.now.body)))) out.old) }
 {
     let stamp = object.meta.stamp;
     let created = shown_moment(alloc, stamp.created)?;
     let uid = uid_text(alloc, stamp.uid)?;
     out.name("metadata")?;
     out.open_object()?;
-    out.texts_field("annotations", annotations)?;
+    annotations_field(alloc, out, object)?;
     out.text_field("creationTimestamp", created.as_str())?;
     out.number_field("generation", Some(stamp.generation))?;
-    out.texts_field("labels", labels)?;
+    labels_field(out, object)?;
     out.text_field("name", object.key.name.name.as_str())?;
     out.text_field("namespace", object.key.name.space.as_str())?;
     owner_field(alloc, out, &object.meta.owner)?;

@@ -8,12 +8,12 @@ ghost use Rattle.object_writer.specs.Tokens.{with_value, with_field, with_fields
 ghost use Rattle.object_writer.specs.Documents.{head_fields};
 
 use crate::metadata::metadata_field;
+use crate::pods::write_pod;
 use crate::statuses::write_status;
+use crate::tables::write_table;
 use crate::templates::{configuration_spec, route_spec, service_spec};
 use crate::text::JsonText;
-use crate::values::write_value;
-use resource_codec::encode;
-use resource_types::{Body, Labels, Object, ObjectStatus, api_version};
+use resource_types::{Body, Object, ObjectStatus, api_version};
 use std::alloc::{AllocError, Global};
 
 /// The text of what is shown of an object: that of its JSON value, which isn't made.
@@ -36,65 +36,43 @@ pub fn show_object(alloc: Global, out: &mut JsonText, object: &Object) -> Result
             traffic,
             status,
         } => {
-            write_head(
-                alloc,
-                out,
-                object,
-                &object.meta.labels,
-                &object.meta.annotations,
-            )?;
+            write_head(alloc, out, object)?;
             service_spec(out, template, traffic)?;
             write_tail(alloc, out, status)
         }
         Body::Configuration { template, status } => {
-            write_head(
-                alloc,
-                out,
-                object,
-                &object.meta.labels,
-                &object.meta.annotations,
-            )?;
+            write_head(alloc, out, object)?;
             configuration_spec(out, template)?;
             write_tail(alloc, out, status)
         }
+        Body::Revision { spec, status, .. } => {
+            write_head(alloc, out, object)?;
+            write_pod(out, spec)?;
+            write_tail(alloc, out, status)
+        }
         Body::Route { traffic, status } => {
-            write_head(
-                alloc,
-                out,
-                object,
-                &object.meta.labels,
-                &object.meta.annotations,
-            )?;
+            write_head(alloc, out, object)?;
             route_spec(out, traffic)?;
             write_tail(alloc, out, status)
         }
-        _ => write_form(alloc, out, object),
+        Body::Health { .. } => out.null(),
+        Body::Table {
+            route,
+            rows,
+            targets,
+        } => write_table(alloc, out, object, *route, rows, targets),
     }
 }
 
-// Writes an object by its JSON value.
-fn write_form(alloc: Global, out: &mut JsonText, object: &Object) -> Result<(), AllocError>
-    ensures { OnOk result (out.new ≡ with_value (encoded object.now) out.old) }
-{
-    let form = encode(alloc, object)?;
-    write_value(out, &form)
-}
-
 // Writes a document up to its spec, and the name of that.
-fn write_head(
-    alloc: Global,
-    out: &mut JsonText,
-    object: &Object,
-    labels: &Labels,
-    annotations: &Labels,
-) -> Result<(), AllocError>
+fn write_head(alloc: Global, out: &mut JsonText, object: &Object) -> Result<(), AllocError>
     ensures { OnOk result (out.new
-        ≡ with_fields (head_fields object.now labels.now annotations.now) (out.old ++ begin_object ∷ []) ++ key (codes "spec") ∷ []) }
+        ≡ with_fields (head_fields object.now) (out.old ++ begin_object ∷ []) ++ key (codes "spec") ∷ []) }
 {
     out.open_object()?;
     out.text_field("apiVersion", api_version())?;
     out.text_field("kind", object.key.kind.as_str())?;
-    metadata_field(alloc, out, object, labels, annotations)?;
+    metadata_field(alloc, out, object)?;
     out.name("spec")
 }
 

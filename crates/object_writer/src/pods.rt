@@ -1,47 +1,14 @@
 //! Pod specs: two numbers among the members that are kept as they were given.
-ghost use Rattle.std.specs.Prelude.{◌≡◌, ◌≤◌, IsTrue, IsFalse, Some, IfOk, OnOk, length, take, drop};
-ghost use Rattle.json_tree.specs.Tree.{is_after_all, names_of};
+ghost use Rattle.std.specs.Prelude.{◌≡◌, Some, IfOk, OnOk};
 ghost use Rattle.resource_codec.specs.Written.{object_of, number_field, pod_members};
-ghost use Rattle.object_writer.specs.Tokens.{with_field, with_members, begins_before, members_behind, WritesUpTo};
+ghost use Rattle.object_writer.specs.Tokens.{with_value, with_field, WritesUpTo};
 
+use crate::places::{entries_behind, place_before};
 use crate::text::JsonText;
-use crate::values::{write_members, write_value};
+use crate::values::write_members;
 use json_tree::{Json, Text};
 use resource_types::PodSpec;
 use std::alloc::AllocError;
-
-// Writes the members that come before a name, and says how many they are.
-fn write_before(
-    out: &mut JsonText,
-    members: &[(Text, Json)],
-    name: &str,
-) -> Result<usize, AllocError>
-    ensures within { IfOk result (λ n. n ≤ length members.now) }
-    ensures tokens { IfOk result (λ n. out.new ≡ with_members (take n members.now) out.old) }
-    ensures before { IfOk result (λ n. IsTrue (is_after_all name.now (names_of (take n members.now)))) }
-    ensures behind { IfOk result (λ n. IsFalse (begins_before name.now (drop n members.now))) }
-{
-    'places: for place in 0..members.len() {
-        let member = &members[place];
-        if member.0.as_str() >= name {
-            return Ok(place);
-        }
-        out.name(member.0.as_str())?;
-        write_value(out, &member.1)?;
-    }
-    Ok(members.len())
-}
-
-// The members without the first one, if that has the name.
-fn members_behind<'a>(members: &'a [(Text, Json)], name: &str) -> &'a [(Text, Json)]
-    ensures { result.now ≡ members_behind name.now members.now }
-{
-    if !members.is_empty() && members[0].0.as_str() == name {
-        &members[1..]
-    } else {
-        members
-    }
-}
 
 // Writes the members up to a number, if there is one, and the number; it gives those that are left.
 fn write_up_to<'a>(
@@ -56,9 +23,22 @@ fn write_up_to<'a>(
     if number.is_none() {
         return Ok(members);
     }
-    let place = write_before(out, members, name)?;
+    let place = place_before(members, name);
+    write_members(out, &members[..place])?;
     out.number_field(name, number)?;
-    Ok(members_behind(&members[place..], name))
+    Ok(entries_behind(&members[place..], name))
+}
+
+/// Writes a pod spec.
+pub fn write_pod(out: &mut JsonText, spec: &PodSpec) -> Result<(), AllocError>
+    ensures { OnOk result (out.new ≡ with_value (object_of (pod_members spec.now)) out.old) }
+{
+    out.open_object()?;
+    let members = spec.rest.entries();
+    let members = write_up_to(out, members, "containerConcurrency", spec.concurrency)?;
+    let members = write_up_to(out, members, "timeoutSeconds", spec.timeout)?;
+    write_members(out, members)?;
+    out.close_object()
 }
 
 /// Writes a pod spec under a name.
@@ -66,10 +46,5 @@ pub fn pod_field(out: &mut JsonText, name: &str, spec: &PodSpec) -> Result<(), A
     ensures { OnOk result (out.new ≡ with_field name.now (Some (object_of (pod_members spec.now))) out.old) }
 {
     out.name(name)?;
-    out.open_object()?;
-    let members = spec.rest.entries();
-    let members = write_up_to(out, members, "containerConcurrency", spec.concurrency)?;
-    let members = write_up_to(out, members, "timeoutSeconds", spec.timeout)?;
-    write_members(out, members)?;
-    out.close_object()
+    write_pod(out, spec)
 }

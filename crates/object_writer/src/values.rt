@@ -10,7 +10,7 @@ use std::alloc::AllocError;
 
 // Writes the value.
 #[cycle(given)]
-pub fn write_value(out: &mut JsonText, json: &Json) -> Result<(), AllocError>
+fn write_value(out: &mut JsonText, json: &Json) -> Result<(), AllocError>
     ensures { OnOk result (out.new ≡ with_value json.now out.old) }
 {
     match json {
@@ -42,7 +42,7 @@ fn write_items(out: &mut JsonText, items: &[Json]) -> Result<(), AllocError>
     out.close_array()
 }
 
-// Writes the members.
+/// Writes the members.
 #[cycle(given)]
 pub fn write_members(out: &mut JsonText, members: &[(Text, Json)]) -> Result<(), AllocError>
     ensures { OnOk result (out.new ≡ with_members members.now out.old) }

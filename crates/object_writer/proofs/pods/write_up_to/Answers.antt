@@ -6,6 +6,6 @@ returns-then-is_none c = no_number c.args.name.now c.args.number c.args.members.
 
 pub returns : goal.returns
 returns c =
-    let p = c.in_ok-place.ensures in
-    number_put c.args.name.now c.args.number c.args.members.now c.members_behind.result.now c.in_ok-place.place c.args.out.now c.write_before.new.out c.number_field.new.self
-    c.if-is_none.ensures p.tokens p.before p.behind c.in_ok-number_field.ensures c.members_behind.ensures
+    let p = c.place_before-place.ensures in
+    number_put c.args.name.now c.args.number c.args.members.now c.entries_behind.result.now c.place_before-place.result c.args.out.now c.write_members.new.out c.number_field.new.self
+    c.if-is_none.ensures c.in_ok-write_members.ensures p.before p.behind c.in_ok-number_field.ensures c.entries_behind.ensures
