@@ -2,7 +2,6 @@
 use Rattle.std.proofs.Common.{◌≡◌, ◌⊎◌, inl, inr, ℕ, zero, suc, Bool, true, false, ◌&&◌, ◌||◌, not, List, [], ◌∷◌, ◌++◌, Option, Some, None, cond, bytes_eq, length, ◌≤◌, refl, sym, ap, ◌∙◌, subst, arith}
 use Rattle.std.specs.Prelude.{map, slice_get}
 use Rattle.std.specs.List.{filter, list_any}
-use Rattle.std.proofs.lemmas.List.Folds.{list_any-append}
 use Rattle.resource_types.specs.declared.names.Kind.{Kind}
 use Rattle.resource_types.specs.declared.names.Kind.TheVariants as kind
 use Rattle.resource_types.specs.declared.names.Key.{Key}
@@ -13,11 +12,11 @@ use Rattle.resource_types.specs.declared.names.Controller.TheVariants as control
 use Rattle.resource_types.specs.declared.specification.Target.{Target}
 use Rattle.resource_types.specs.declared.objects.Object.{Object}
 use Rattle.resource_types.specs.Objects.{same_kind, is_of, targets_of}
-use Rattle.resource_types.specs.Lookups.{State, find, of_kind, is_given, is_empty, is_naming, is_target_on}
+use Rattle.resource_types.specs.Lookups.{State, of_kind, is_given, is_empty, is_naming, is_target_on}
 use Rattle.resource_types.proofs.Exact.{left, right, bytes-exact}
 use Rattle.control_rules.specs.Standing.{beside, key_at, listed, standing, read}
 use Rattle.control_rules.specs.Slots.{same_name, names_of, names_for, slot_key, is_key}
-use Rattle.control_entries.proofs.Tests.{some_same, or_cases, not_both, name_exact, true_or_false}
+use Rattle.control_entries.proofs.Tests.{both, some_same, or_cases, not_both, name_exact}
 use Rattle.control_entries.proofs.Lists.{filter_at, at_filter, get_below}
 use Rattle.control_entries.proofs.Standing.{Stands, stands, found_at}
 use Rattle.control_touches.specs.Touches.{is_one, is_one_of, is_under, is_lost, is_renamed, is_retargeted, is_retargeted_at, is_changed, is_alike, is_pinned, is_on, is_meaning, targets_in, targets_at, touches, touches_service, touches_configuration, touches_revision, touches_collector, touches_route}
@@ -25,7 +24,7 @@ use Rattle.control_touches.proofs.Collectors.{any_by}
 use Rattle.control_touches.proofs.Own.{or_left, or_right}
 use Rattle.touched_keys.specs.declared.marks.Mark.{Mark}
 use Rattle.touched_keys.specs.Marks.{is_marked, Adds}
-use Rattle.touched_keys.specs.Changes.{ChangeView, IsTouched, MarksEach, MarksAll, MarksPins, MarksNamed, pins_in, has_names, names_revisions, walks_configurations, walks_revisions, walks_collectors, is_read_by_targets}
+use Rattle.touched_keys.specs.Changes.{ChangeView, IsTouched, IsOver, MarksEach, MarksAll, MarksOver, MarksPins, MarksNamed, pins_in, has_names, names_revisions, walks_revisions, is_read_by_targets}
 
 -- ---- keys, and what is walked
 
@@ -67,10 +66,6 @@ named_walked st k n e =
       where
         at : ((i : ℕ) × (slice_get (of_kind k st) i ≡ Some o)) → IsWalked st k n
         at (i, g) = record { place = i; object = o; is = g; name = name }
-
-pub configuration_walked : (st : State) (n : Name) → is_key (slot_key controller.Configuration n) st ≡ true → IsWalked st kind.Configuration n
-unfolding is_key names_for
-configuration_walked st n e = named_walked st kind.Configuration n e
 
 pub revision_walked : (st : State) (n : Name) → is_key (slot_key controller.Revision n) st ≡ true → IsWalked st kind.Revision n
 unfolding is_key names_for
@@ -144,35 +139,45 @@ pub service_split : (c : ChangeView) (n : Name) → IsTouched c (slot_key contro
 unfolding touches touches_service
 service_split c n t = one_name _ n c.key t
 
-pub configuration_split : (c : ChangeView) (n : Name) → IsTouched c (slot_key controller.Configuration n) → (c.key.name ≡ n) ⊎ (walks_configurations c ≡ true)
+-- a Revision was changed, and its name is under the name
+over_from : (c : ChangeView) (n : Name) → is_one_of kind.Revision n.space (is_under n.name) c.key ≡ true → IsOver c n
+over_from c n h = record {
+  of = one_of_kind kind.Revision n.space (is_under n.name) c.key h;
+  space = one_of_space kind.Revision n.space (is_under n.name) c.key h;
+  under = one_of_test kind.Revision n.space (is_under n.name) c.key h;
+}
+
+pub configuration_split : (c : ChangeView) (n : Name) → IsTouched c (slot_key controller.Configuration n) → (c.key.name ≡ n) ⊎ IsOver c n
 unfolding touches touches_configuration
 configuration_split c n t = go (or_cases t)
   where
-    go : (is_one (kind.Service ∷ kind.Configuration ∷ []) n c.key ≡ true) ⊎ (is_one_of kind.Revision n.space (is_under n.name) c.key ≡ true) → (c.key.name ≡ n) ⊎ (same_kind c.key.kind kind.Revision ≡ true)
+    go : (is_one (kind.Service ∷ kind.Configuration ∷ []) n c.key ≡ true) ⊎ (is_one_of kind.Revision n.space (is_under n.name) c.key ≡ true) → (c.key.name ≡ n) ⊎ IsOver c n
     go (inl h) = inl (one_name _ n c.key h)
-    go (inr h) = inr (one_of_kind kind.Revision n.space (is_under n.name) c.key h)
+    go (inr h) = inr (over_from c n h)
 
 pub revision_split : (c : ChangeView) (n : Name) → IsTouched c (slot_key controller.Revision n) → (c.key.name ≡ n) ⊎ (walks_revisions c ≡ true)
 unfolding touches touches_revision
 revision_split c n t = go (or_cases t)
   where
     wide : ((is_one_of kind.Configuration n.space (λ name. is_under name n.name) c.key && is_lost c.old c.new) ≡ true) ⊎ (is_retargeted n c.old c.new ≡ true) → walks_revisions c ≡ true
-    wide (inl h) = or_left _ _ (right (is_one_of kind.Configuration n.space (λ name. is_under name n.name) c.key) _ h)
-    wide (inr h) = or_right (is_lost c.old c.new) _ (retargeted_names n c h)
+    wide (inl h) = or_left _ _ (both
+        (one_of_kind kind.Configuration n.space (λ name. is_under name n.name) c.key (left (is_one_of kind.Configuration n.space (λ name. is_under name n.name) c.key) (is_lost c.old c.new) h))
+        (right (is_one_of kind.Configuration n.space (λ name. is_under name n.name) c.key) (is_lost c.old c.new) h))
+    wide (inr h) = or_right (same_kind c.key.kind kind.Configuration && is_lost c.old c.new) _ (retargeted_names n c h)
 
     go : (is_one (kind.Revision ∷ kind.Health ∷ []) n c.key ≡ true) ⊎ (((is_one_of kind.Configuration n.space (λ name. is_under name n.name) c.key && is_lost c.old c.new) || is_retargeted n c.old c.new) ≡ true) → (c.key.name ≡ n) ⊎ (walks_revisions c ≡ true)
     go (inl h) = inl (one_name _ n c.key h)
     go (inr h) = inr (wide (or_cases h))
 
-pub collector_split : (c : ChangeView) (n : Name) → IsTouched c (slot_key controller.Collector n) → (c.key.name ≡ n) ⊎ (walks_collectors c ≡ true)
+pub collector_split : (c : ChangeView) (n : Name) → IsTouched c (slot_key controller.Collector n) → (c.key.name ≡ n) ⊎ (IsOver c n ⊎ (names_revisions c ≡ true))
 unfolding touches touches_collector
 collector_split c n t = go (or_cases t)
   where
-    wide : (is_one_of kind.Revision n.space (is_under n.name) c.key ≡ true) ⊎ (is_retargeted_at n.space (is_under n.name) c.old c.new ≡ true) → walks_collectors c ≡ true
-    wide (inl h) = or_left _ _ (one_of_kind kind.Revision n.space (is_under n.name) c.key h)
-    wide (inr h) = or_right (same_kind c.key.kind kind.Revision) _ (retargeted_at_names n (is_under n.name) c h)
+    wide : (is_one_of kind.Revision n.space (is_under n.name) c.key ≡ true) ⊎ (is_retargeted_at n.space (is_under n.name) c.old c.new ≡ true) → IsOver c n ⊎ (names_revisions c ≡ true)
+    wide (inl h) = inl (over_from c n h)
+    wide (inr h) = inr (retargeted_at_names n (is_under n.name) c h)
 
-    go : (is_one (kind.Configuration ∷ []) n c.key ≡ true) ⊎ ((is_one_of kind.Revision n.space (is_under n.name) c.key || is_retargeted_at n.space (is_under n.name) c.old c.new) ≡ true) → (c.key.name ≡ n) ⊎ (walks_collectors c ≡ true)
+    go : (is_one (kind.Configuration ∷ []) n c.key ≡ true) ⊎ ((is_one_of kind.Revision n.space (is_under n.name) c.key || is_retargeted_at n.space (is_under n.name) c.old c.new) ≡ true) → (c.key.name ≡ n) ⊎ (IsOver c n ⊎ (names_revisions c ≡ true))
     go (inl h) = inl (one_name _ n c.key h)
     go (inr h) = inr (wide (or_cases h))
 
@@ -242,6 +247,33 @@ walked_marked c by k n keys each w = subst (λ z. IsTouched c (slot_key by z) �
 module _ (c : ChangeView) (m : Name) (e : m ≡ c.key.name) where
   pub services_all : (keys : List Mark) → MarksOwn c controller.Service m keys → MarksAll c controller.Service keys
   services_all keys own n known t = own_marked c controller.Service m n keys own (e ∙ service_split c n t) t
+
+  pub configurations_all : (P : SlotKey → Type 0) (before keys : List Mark) → MarksOwn c controller.Configuration m before → Adds P before keys → MarksOver c controller.Configuration keys → MarksAll c controller.Configuration keys
+  configurations_all P before keys own adds over n known t = go (configuration_split c n t)
+    where
+      go : (c.key.name ≡ n) ⊎ IsOver c n → is_marked (slot_key controller.Configuration n) keys ≡ true
+      go (inl q) = own_marked c controller.Configuration m n keys (λ u. adds.kept (slot_key controller.Configuration m) (own u)) (e ∙ q) t
+      go (inr o) = over n o t
+
+  -- the Collectors of its own name and of those over it are marked, and those that targets touch are or needn't be
+  collectors_by : (keys : List Mark) → MarksOwn c controller.Collector m keys → MarksOver c controller.Collector keys → (n : Name) → IsTouched c (slot_key controller.Collector n) → (names_revisions c ≡ true → is_marked (slot_key controller.Collector n) keys ≡ true)
+      → is_marked (slot_key controller.Collector n) keys ≡ true
+  collectors_by keys own over n t named = go (collector_split c n t)
+    where
+      go : (c.key.name ≡ n) ⊎ (IsOver c n ⊎ (names_revisions c ≡ true)) → is_marked (slot_key controller.Collector n) keys ≡ true
+      go (inl q) = own_marked c controller.Collector m n keys own (e ∙ q) t
+      go (inr (inl o)) = over n o t
+      go (inr (inr h)) = named h
+
+  pub collectors_off : (P : SlotKey → Type 0) (before keys : List Mark) → names_revisions c ≡ false → MarksOwn c controller.Collector m before → Adds P before keys → MarksOver c controller.Collector keys → MarksAll c controller.Collector keys
+  collectors_off P before keys off own adds over n known t =
+      collectors_by keys (λ u. adds.kept (slot_key controller.Collector m) (own u)) over n t (λ h. absurd (not_both h off))
+
+  pub collectors_walked : (P : SlotKey → Type 0) (k0 k1 keys : List Mark) → MarksOwn c controller.Collector m k0 → Adds P k0 k1 → MarksOver c controller.Collector k1 → Adds P k1 keys → MarksEach c controller.Collector (of_kind kind.Configuration c.state) keys
+      → MarksAll c controller.Collector keys
+  collectors_walked P k0 k1 keys own a over b each n known t =
+      collectors_by keys (λ u. b.kept (slot_key controller.Collector m) (a.kept (slot_key controller.Collector m) (own u))) (λ n o u. b.kept (slot_key controller.Collector n) (over n o u)) n t
+      (λ h. walked_marked c controller.Collector kind.Configuration n keys each (collector_walked c.state n known) t)
 
   module _ (by : Controller) (wide : Bool) (split : (n : Name) → IsTouched c (slot_key by n) → (c.key.name ≡ n) ⊎ (wide ≡ true)) where
     -- nothing need be walked

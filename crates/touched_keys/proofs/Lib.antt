@@ -2,5 +2,6 @@ pub mod Before
 pub mod Placed
 pub mod Noted
 pub mod Adding
+pub mod Over
 pub mod Covering
 pub mod Taking

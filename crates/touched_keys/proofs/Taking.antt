@@ -16,16 +16,14 @@ use Rattle.control_touches.proofs.Own.{or_left, or_right}
 use Rattle.control_touches.proofs.Among.{same_tests}
 use Rattle.touched_keys.specs.declared.marks.Mark.{Mark}
 use Rattle.touched_keys.specs.Places.{touches_at, object_before}
-use Rattle.touched_keys.specs.Marks.{is_marked, MarksView, is_collector, is_touched_in, Adds, MarksKeys, TouchesSame}
+use Rattle.touched_keys.specs.Marks.{is_marked, MarksView, is_collector, Adds, MarksKeys, TouchesSame}
 use Rattle.touched_keys.proofs.Placed.{placed_old}
 use Rattle.touched_keys.proofs.Noted.{since_next, since_none}
+use Rattle.touched_keys.proofs.Over.{last_or_before}
 use Rattle.touched_keys.proofs.Adding.{adds_then, adds_by}
 use Rattle.touched_keys.proofs.Covering.{IsWalked, collector_walked}
 
 -- ---- all Collectors
-
-last_or_before : (i n : ℕ) → i < n + 1 → (i ≡ n) ⊎ (i < n)
-last_or_before i n h = grind arith
 
 -- the Collectors of the first n of these objects are marked
 abbrev pub AreCollected : ℕ → List Object → List Mark → Type 0

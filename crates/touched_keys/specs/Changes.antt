@@ -1,5 +1,5 @@
 -- What contracts see of a change.
-use Rattle.std.specs.Prelude.{◌≡◌, ℕ, ◌<◌, ◌&&◌, ◌||◌, Bool, not, true, List, [], slice_get, Option, Some}
+use Rattle.std.specs.Prelude.{◌≡◌, ℕ, ◌<◌, ◌&&◌, ◌||◌, Bool, not, true, List, [], length, slice_get, Option, Some}
 use Rattle.std.specs.List.{list_any}
 use Rattle.resource_types.specs.declared.names.Kind.TheVariants as kind
 use Rattle.resource_types.specs.declared.specification.Target.{Target}
@@ -13,7 +13,7 @@ use Rattle.resource_types.specs.declared.names.Controller.{Controller}
 use Rattle.resource_types.specs.declared.names.Controller.TheVariants as controller
 use Rattle.resource_types.specs.declared.names.Name.{Name}
 use Rattle.control_rules.specs.Slots.{slot_key, is_key}
-use Rattle.control_touches.specs.Touches.{is_lost, is_alike, is_pinned, targets_in, touches}
+use Rattle.control_touches.specs.Touches.{is_under, is_lost, is_alike, is_pinned, targets_in, touches}
 use Rattle.touched_keys.specs.declared.marks.Mark.{Mark}
 use Rattle.touched_keys.specs.Marks.{is_marked}
 
@@ -48,6 +48,20 @@ MarksPins c o keys = (n : Name) → n.space ≡ c.key.name.space → is_pinned n
 abbrev pub MarksNamed : ℕ → ChangeView → List (List ℕ) → List Mark → Type 0
 MarksNamed n c names keys = (i : ℕ) (name : List ℕ) → i < n → slice_get names i ≡ Some name → IsTouched c (slot_key controller.Route (beside c.key.name name)) → is_marked (slot_key controller.Route (beside c.key.name name)) keys ≡ true
 
+-- a Revision was changed, and its name is under the name
+pub record IsOver (c : ChangeView) (n : Name) : Type 0 where
+  pub of : same_kind c.key.kind kind.Revision ≡ true
+  pub space : n.space ≡ c.key.name.space
+  pub under : is_under n.name c.key.name.name ≡ true
+
+-- each key of the controller by a name that the changed Revision's is under is marked, where the change touches it
+abbrev pub MarksOver : ChangeView → Controller → List Mark → Type 0
+MarksOver c by keys = (n : Name) → IsOver c n → IsTouched c (slot_key by n) → is_marked (slot_key by n) keys ≡ true
+
+-- the same of the names that are shorter than this
+abbrev pub MarksOverBelow : ℕ → ChangeView → Controller → List Mark → Type 0
+MarksOverBelow end c by keys = (n : Name) → length n.name < end → IsOver c n → IsTouched c (slot_key by n) → is_marked (slot_key by n) keys ≡ true
+
 -- ---- which walks are needed
 
 -- whether one of the targets names a Revision
@@ -58,15 +72,9 @@ has_names ts = list_any (λ (t : Target). not (is_empty t.revision)) ts
 abbrev pub names_revisions : ChangeView → Bool
 names_revisions c = has_names (targets_in c.old) || has_names (targets_in c.new)
 
--- whether keys of other names than its own may be touched: of Configurations, of Revisions, of Collectors
-abbrev pub walks_configurations : ChangeView → Bool
-walks_configurations c = same_kind c.key.kind kind.Revision
-
+-- whether Revisions of other names than its own may be touched
 abbrev pub walks_revisions : ChangeView → Bool
-walks_revisions c = is_lost c.old c.new || names_revisions c
-
-abbrev pub walks_collectors : ChangeView → Bool
-walks_collectors c = same_kind c.key.kind kind.Revision || names_revisions c
+walks_revisions c = (same_kind c.key.kind kind.Configuration && is_lost c.old c.new) || names_revisions c
 
 -- whether targets of Routes may read otherwise what was changed
 abbrev pub is_read_by_targets : ChangeView → Bool

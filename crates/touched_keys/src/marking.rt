@@ -5,7 +5,8 @@ ghost use Rattle.resource_types.specs.Lookups.{state, of_kind};
 ghost use Rattle.control_rules.specs.Slots.{slot_key};
 ghost use Rattle.control_touches.specs.Touches.{touches};
 ghost use Rattle.touched_keys.specs.Marks.{is_marked, marked, Adds};
-ghost use Rattle.touched_keys.specs.Changes.{has_names, names_revisions, walks_revisions, walks_configurations, walks_collectors, is_read_by_targets, pins_in, IsTouched, MarksEach, MarksAll, MarksPins};
+ghost use Rattle.control_rules.specs.Standing.{beside};
+ghost use Rattle.touched_keys.specs.Changes.{has_names, names_revisions, walks_revisions, is_read_by_targets, pins_in, IsTouched, MarksEach, MarksAll, MarksOver, MarksPins};
 
 use crate::marks::Mark;
 use crate::targets::targets_in;
@@ -64,21 +65,8 @@ impl<'a> Change<'a> {
     fn walks_revisions(&self) -> bool
         ensures { result ≡ walks_revisions self.now }
     {
-        is_lost(self.old, self.new) || self.names_revisions()
-    }
-
-    // Whether Configurations of other names may be touched.
-    fn walks_configurations(&self) -> bool
-        ensures { result ≡ walks_configurations self.now }
-    {
-        self.key.kind == Kind::Revision
-    }
-
-    // Whether Collectors of other names may be touched.
-    fn walks_collectors(&self) -> bool
-        ensures { result ≡ walks_collectors self.now }
-    {
-        self.key.kind == Kind::Revision || self.names_revisions()
+        (self.key.kind == Kind::Configuration && is_lost(self.old, self.new))
+            || self.names_revisions()
     }
 
     // Whether targets of Routes may read otherwise what was changed.
@@ -148,6 +136,46 @@ fn mark_if(
     Ok(())
 }
 
+// Marks the controller's key of the simple name in the namespace of the change, where the change touches it.
+fn mark_beside(
+    alloc: Global,
+    keys: &mut SlotTable<Mark>,
+    change: &Change,
+    controller: Controller,
+    name: &str,
+) -> Result<(), AllocError>
+    ensures adds { Adds (IsTouched change.now) keys.old keys.new }
+    ensures all { OnOk result (IsTouched change.now (slot_key controller (beside change.now.key.name name.now)) → is_marked (slot_key controller (beside change.now.key.name name.now)) keys.new ≡ true) }
+{
+    let space = change.key.name.space.copy(alloc)?;
+    let name = Text::new(alloc, name)?;
+    mark_if(alloc, keys, change, controller, &Name { space, name })?;
+    Ok(())
+}
+
+// Marks the controller's keys of the names that a Revision's is under, where the change touches them: each front of its
+// name that a dash follows.
+fn mark_over(
+    alloc: Global,
+    keys: &mut SlotTable<Mark>,
+    change: &Change,
+    controller: Controller,
+) -> Result<(), AllocError>
+    ensures adds { Adds (IsTouched change.now) keys.old keys.new }
+    ensures all { OnOk result (MarksOver change.now controller keys.new) }
+{
+    if change.key.kind != Kind::Revision {
+        return Ok(());
+    }
+    let text = change.key.name.name.as_str();
+    for end in 0..text.len() {
+        if text.as_bytes()[end] == b'-' {
+            mark_beside(alloc, keys, change, controller, &text[..end])?;
+        }
+    }
+    Ok(())
+}
+
 // Marks the controller's keys of the names of the objects of a kind, where the change touches them.
 fn mark_walk(
     alloc: Global,
@@ -195,15 +223,7 @@ fn mark_configurations(
         Controller::Configuration,
         &change.key.name,
     )?;
-    if change.walks_configurations() {
-        mark_walk(
-            alloc,
-            keys,
-            change,
-            Controller::Configuration,
-            Kind::Configuration,
-        )?;
-    }
+    mark_over(alloc, keys, change, Controller::Configuration)?;
     Ok(())
 }
 
@@ -233,7 +253,8 @@ fn mark_collectors(
     ensures all { OnOk result (MarksAll change.now Controller.Collector keys.new) }
 {
     mark_if(alloc, keys, change, Controller::Collector, &change.key.name)?;
-    if change.walks_collectors() {
+    mark_over(alloc, keys, change, Controller::Collector)?;
+    if change.names_revisions() {
         mark_walk(
             alloc,
             keys,
@@ -256,15 +277,7 @@ fn mark_pins(
     ensures all { OnOk result (MarksPins change.now (option_copied object.entry) keys.new) }
 {
     for pin in pins_in(object) {
-        let space = change.key.name.space.copy(alloc)?;
-        let name = pin.copy(alloc)?;
-        mark_if(
-            alloc,
-            keys,
-            change,
-            Controller::Route,
-            &Name { space, name },
-        )?;
+        mark_beside(alloc, keys, change, Controller::Route, pin.as_str())?;
     }
     Ok(())
 }

@@ -1,18 +1,16 @@
 use Rattle.std.proofs.Common.{ap, sym, ◌∙◌}
-use Rattle.resource_types.specs.declared.names.Kind.TheVariants as kind
-use Rattle.resource_types.specs.declared.names.Controller.TheVariants as controller
-use Rattle.touched_keys.specs.Changes.{ChangeView, IsTouched, walks_collectors}
-use Rattle.touched_keys.proofs.Covering.{collector_split, collector_walked, all_off, all_walked}
+use Rattle.touched_keys.specs.Changes.{ChangeView, IsTouched}
+use Rattle.touched_keys.proofs.Covering.{collectors_off, collectors_walked}
 use Rattle.touched_keys.proofs.marking.mark_collectors.Goals as goal
 
 pub returns-in_ok-mark_walk-clause-all : goal.returns-in_ok-mark_walk-clause-all
 returns-in_ok-mark_walk-clause-all c =
     let v = c.args.change.now in
-    all_walked v c.change.inside.key.now.name (ap (λ (v : ChangeView). v.key.name) c.change.view_is) controller.Collector (walks_collectors v) (collector_split v) (IsTouched v) kind.Configuration c.mark_if.new.keys c.mark_walk.new.keys (collector_walked v.state)
-    c.in_ok-mark_if.ensures.all c.in_ok-mark_walk.ensures.adds c.in_ok-mark_walk.ensures.all
+    collectors_walked v c.change.inside.key.now.name (ap (λ (v : ChangeView). v.key.name) c.change.view_is) (IsTouched v) c.mark_if.new.keys c.mark_over.new.keys c.mark_walk.new.keys
+    c.in_ok-mark_if.ensures.all c.in_ok-mark_over.ensures.adds c.in_ok-mark_over.ensures.all c.in_ok-mark_walk.ensures.adds c.in_ok-mark_walk.ensures.all
 
-pub returns-else-walks_collectors-clause-all : goal.returns-else-walks_collectors-clause-all
-returns-else-walks_collectors-clause-all c =
+pub returns-else-names_revisions-clause-all : goal.returns-else-names_revisions-clause-all
+returns-else-names_revisions-clause-all c =
     let v = c.args.change.now in
-    all_off v c.change.inside.key.now.name (ap (λ (v : ChangeView). v.key.name) c.change.view_is) controller.Collector (walks_collectors v) (collector_split v) c.mark_if.new.keys (sym c.walks_collectors.ensures ∙ c.if-walks_collectors.false)
-    c.in_ok-mark_if.ensures.all
+    collectors_off v c.change.inside.key.now.name (ap (λ (v : ChangeView). v.key.name) c.change.view_is) (IsTouched v) c.mark_if.new.keys c.mark_over.new.keys (sym c.names_revisions.ensures ∙ c.if-names_revisions.false)
+    c.in_ok-mark_if.ensures.all c.in_ok-mark_over.ensures.adds c.in_ok-mark_over.ensures.all
