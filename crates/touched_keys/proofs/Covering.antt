@@ -12,11 +12,11 @@ use Rattle.resource_types.specs.declared.names.Controller.TheVariants as control
 use Rattle.resource_types.specs.declared.specification.Target.{Target}
 use Rattle.resource_types.specs.declared.objects.Object.{Object}
 use Rattle.resource_types.specs.Objects.{same_kind, is_of, targets_of}
-use Rattle.resource_types.specs.Lookups.{State, of_kind, is_given, is_empty, is_naming, is_target_on}
+use Rattle.resource_types.specs.Lookups.{State, in_space, of_kind, is_given, is_empty, is_naming, is_target_on}
 use Rattle.resource_types.proofs.Exact.{left, right, bytes-exact}
 use Rattle.control_rules.specs.Standing.{beside, key_at, listed, standing, read}
 use Rattle.control_rules.specs.Slots.{same_name, names_of, names_for, slot_key, is_key}
-use Rattle.control_entries.proofs.Tests.{both, some_same, or_cases, not_both, name_exact}
+use Rattle.control_entries.proofs.Tests.{bytes_self, both, some_same, or_cases, not_both, name_exact}
 use Rattle.control_entries.proofs.Lists.{filter_at, at_filter, get_below}
 use Rattle.control_entries.proofs.Standing.{Stands, stands, found_at}
 use Rattle.control_touches.specs.Touches.{is_one, is_one_of, is_under, is_lost, is_renamed, is_retargeted, is_retargeted_at, is_changed, is_alike, is_pinned, is_on, is_meaning, targets_in, targets_at, touches, touches_service, touches_configuration, touches_revision, touches_collector, touches_route}
@@ -28,11 +28,11 @@ use Rattle.touched_keys.specs.Changes.{ChangeView, IsTouched, IsOver, MarksEach,
 
 -- ---- keys, and what is walked
 
--- an object of the kind that is walked, by the name
-pub record IsWalked (st : State) (k : Kind) (n : Name) : Type 0 where
+-- one of the objects that are walked has the name
+pub record IsWalked (os : List Object) (n : Name) : Type 0 where
   pub place : ℕ
   pub object : Object
-  pub is : slice_get (of_kind k st) place ≡ Some object
+  pub is : slice_get os place ≡ Some object
   pub name : object.key.name ≡ n
 
 record IsAt {X : Type 0} (P : X → Type 0) (xs : List X) : Type 0 where
@@ -55,37 +55,44 @@ map_at g (x ∷ xs) zero y e = record { place = 0; one = x; is = refl; holds = s
 map_at g (x ∷ xs) (suc i) y e = let r = map_at g xs i y e in record { place = suc r.place; one = r.one; is = r.is; holds = r.holds }
 
 -- a name of the kind is walked
-named_walked : (st : State) (k : Kind) (n : Name) → list_any (same_name n) (names_of k st) ≡ true → IsWalked st k n
+named_walked : (st : State) (k : Kind) (n : Name) → list_any (same_name n) (names_of k st) ≡ true → IsWalked (of_kind k st) n
 named_walked st k n e =
     let one = any_some (same_name n) (names_of k st) e in
     let two = map_at (λ (o : Object). o.key.name) (filter (is_of k) st) one.place one.one one.is in
     go two.one (two.holds ∙ sym (name_exact n one.one one.holds)) (filter_at (is_of k) st two.place two.one two.is)
   where
-    go : (o : Object) → o.key.name ≡ n → (is_of k o ≡ true) × (i : ℕ) × (slice_get st i ≡ Some o) → IsWalked st k n
+    go : (o : Object) → o.key.name ≡ n → (is_of k o ≡ true) × (i : ℕ) × (slice_get st i ≡ Some o) → IsWalked (of_kind k st) n
     go o name (of, i, g) = at (at_filter (λ (x : Object). same_kind x.key.kind k) st i o g (left (same_kind o.key.kind k) _ of))
       where
-        at : ((i : ℕ) × (slice_get (of_kind k st) i ≡ Some o)) → IsWalked st k n
+        at : ((i : ℕ) × (slice_get (of_kind k st) i ≡ Some o)) → IsWalked (of_kind k st) n
         at (i, g) = record { place = i; object = o; is = g; name = name }
 
-pub revision_walked : (st : State) (n : Name) → is_key (slot_key controller.Revision n) st ≡ true → IsWalked st kind.Revision n
+pub revision_walked : (st : State) (n : Name) → is_key (slot_key controller.Revision n) st ≡ true → IsWalked (of_kind kind.Revision st) n
 unfolding is_key names_for
 revision_walked st n e = named_walked st kind.Revision n e
 
-pub collector_walked : (st : State) (n : Name) → is_key (slot_key controller.Collector n) st ≡ true → IsWalked st kind.Configuration n
+pub collector_walked : (st : State) (n : Name) → is_key (slot_key controller.Collector n) st ≡ true → IsWalked (of_kind kind.Configuration st) n
 unfolding is_key names_for
 collector_walked st n e = named_walked st kind.Configuration n e
 
 -- what stands is walked
-pub standing_walked : (st : State) (k : Kind) (n : Name) (o : Object) → standing k n st ≡ Some o → IsWalked st k n
+pub standing_walked : (st : State) (k : Kind) (n : Name) (o : Object) → standing k n st ≡ Some o → IsWalked (of_kind k st) n
 standing_walked st k n o e =
     let s = stands k n st o e in
     go s (found_at (key_at k n) st o s.found)
   where
-    go : Stands k n st o → ((i : ℕ) × (slice_get st i ≡ Some o)) → IsWalked st k n
+    go : Stands k n st o → ((i : ℕ) × (slice_get st i ≡ Some o)) → IsWalked (of_kind k st) n
     go s (i, g) = at (at_filter (λ (x : Object). same_kind x.key.kind k) st i o g (left (same_kind o.key.kind k) _ s.of))
       where
-        at : ((i : ℕ) × (slice_get (of_kind k st) i ≡ Some o)) → IsWalked st k n
+        at : ((i : ℕ) × (slice_get (of_kind k st) i ≡ Some o)) → IsWalked (of_kind k st) n
         at (i, g) = record { place = i; object = o; is = g; name = ap (λ (q : Key). q.name) s.key }
+
+-- and where its namespace is walked
+space_walked : (os : List Object) (n : Name) (space : List ℕ) → n.space ≡ space → IsWalked os n → IsWalked (in_space space os) n
+space_walked os n space same w = at (at_filter (λ (o : Object). bytes_eq o.key.name.space space) os w.place w.object w.is (subst (λ z. bytes_eq z space ≡ true) (sym (ap (λ (m : Name). m.space) w.name ∙ same)) (bytes_self space)))
+  where
+    at : ((i : ℕ) × (slice_get (in_space space os) i ≡ Some w.object)) → IsWalked (in_space space os) n
+    at (i, g) = record { place = i; object = w.object; is = g; name = w.name }
 
 -- ---- what is touched is the change's own key, or found on a walk
 
@@ -187,9 +194,10 @@ pub record IsPinChange (c : ChangeView) (n : Name) : Type 0 where
   pub space : n.space ≡ c.key.name.space
   pub pinned : (is_pinned n c.old ≡ true) ⊎ (is_pinned n c.new ≡ true)
 
--- targets read what was changed, and the Route stands
+-- targets read what was changed, and the Route stands in its namespace
 pub record IsReadAt (c : ChangeView) (n : Name) : Type 0 where
   pub reads : is_read_by_targets c ≡ true
+  pub space : n.space ≡ c.key.name.space
   pub route : Object
   pub stands : standing kind.Route n c.state ≡ Some route
 
@@ -214,17 +222,18 @@ route_split c n t = go (or_cases t)
     test : List ℕ → Bool
     test name = is_changed (is_pinned n c.old) (is_pinned n c.new) || (not (is_alike c.old c.new) && list_any (is_meaning c.state n name) (targets_at c.state n))
 
-    read_at : is_read_by_targets c ≡ true → ((o : Object) × (standing kind.Route n c.state ≡ Some o)) → IsReadAt c n
-    read_at r (o, e) = record { reads = r; route = o; stands = e }
+    read_at : is_read_by_targets c ≡ true → n.space ≡ c.key.name.space → ((o : Object) × (standing kind.Route n c.state ≡ Some o)) → IsReadAt c n
+    read_at r space (o, e) = record { reads = r; space = space; route = o; stands = e }
 
     by : same_kind c.key.kind kind.Revision ≡ true → n.space ≡ c.key.name.space
         → (is_changed (is_pinned n c.old) (is_pinned n c.new) ≡ true) ⊎ ((not (is_alike c.old c.new) && list_any (is_meaning c.state n c.key.name.name) (targets_at c.state n)) ≡ true) → IsPinChange c n ⊎ IsReadAt c n
     by of space (inl h) = inl (record { of = of; space = space; pinned = changed_some _ _ h })
-    by of space (inr h) = inr (read_at (or_right (same_kind c.key.kind kind.Configuration) _ (subst (λ b. (b && not (is_alike c.old c.new)) ≡ true) (sym of) (left (not (is_alike c.old c.new)) _ h)))
+    by of space (inr h) = inr (read_at (or_right (same_kind c.key.kind kind.Configuration) _ (subst (λ b. (b && not (is_alike c.old c.new)) ≡ true) (sym of) (left (not (is_alike c.old c.new)) _ h))) space
         (has_route c.state n (is_meaning c.state n c.key.name.name) (right (not (is_alike c.old c.new)) _ h)))
 
     wide : (is_one_of kind.Configuration n.space (λ name. list_any (is_on name) (targets_at c.state n)) c.key ≡ true) ⊎ (is_one_of kind.Revision n.space test c.key ≡ true) → IsPinChange c n ⊎ IsReadAt c n
     wide (inl h) = inr (read_at (or_left _ _ (one_of_kind kind.Configuration n.space (λ name. list_any (is_on name) (targets_at c.state n)) c.key h))
+        (one_of_space kind.Configuration n.space (λ name. list_any (is_on name) (targets_at c.state n)) c.key h)
         (has_route c.state n (is_on c.key.name.name) (one_of_test kind.Configuration n.space (λ name. list_any (is_on name) (targets_at c.state n)) c.key h)))
     wide (inr h) = by (one_of_kind kind.Revision n.space test c.key h) (one_of_space kind.Revision n.space test c.key h) (or_cases (one_of_test kind.Revision n.space test c.key h))
 
@@ -241,8 +250,8 @@ MarksOwn c by m keys = IsTouched c (slot_key by m) → is_marked (slot_key by m)
 own_marked : (c : ChangeView) (by : Controller) (m n : Name) (keys : List Mark) → MarksOwn c by m keys → m ≡ n → IsTouched c (slot_key by n) → is_marked (slot_key by n) keys ≡ true
 own_marked c by m n keys own e = subst (λ z. IsTouched c (slot_key by z) → is_marked (slot_key by z) keys ≡ true) e own
 
-walked_marked : (c : ChangeView) (by : Controller) (k : Kind) (n : Name) (keys : List Mark) → MarksEach c by (of_kind k c.state) keys → IsWalked c.state k n → IsTouched c (slot_key by n) → is_marked (slot_key by n) keys ≡ true
-walked_marked c by k n keys each w = subst (λ z. IsTouched c (slot_key by z) → is_marked (slot_key by z) keys ≡ true) w.name (each w.place w.object w.is)
+walked_marked : (c : ChangeView) (by : Controller) (os : List Object) (n : Name) (keys : List Mark) → MarksEach c by os keys → IsWalked os n → IsTouched c (slot_key by n) → is_marked (slot_key by n) keys ≡ true
+walked_marked c by os n keys each w = subst (λ z. IsTouched c (slot_key by z) → is_marked (slot_key by z) keys ≡ true) w.name (each w.place w.object w.is)
 
 module _ (c : ChangeView) (m : Name) (e : m ≡ c.key.name) where
   pub services_all : (keys : List Mark) → MarksOwn c controller.Service m keys → MarksAll c controller.Service keys
@@ -269,11 +278,11 @@ module _ (c : ChangeView) (m : Name) (e : m ≡ c.key.name) where
   collectors_off P before keys off own adds over n known t =
       collectors_by keys (λ u. adds.kept (slot_key controller.Collector m) (own u)) over n t (λ h. absurd (not_both h off))
 
-  pub collectors_walked : (P : SlotKey → Type 0) (k0 k1 keys : List Mark) → MarksOwn c controller.Collector m k0 → Adds P k0 k1 → MarksOver c controller.Collector k1 → Adds P k1 keys → MarksEach c controller.Collector (of_kind kind.Configuration c.state) keys
+  pub collectors_walked : (P : SlotKey → Type 0) (k0 k1 keys : List Mark) → MarksOwn c controller.Collector m k0 → Adds P k0 k1 → MarksOver c controller.Collector k1 → Adds P k1 keys → (os : List Object) → os ≡ of_kind kind.Configuration c.state → MarksEach c controller.Collector os keys
       → MarksAll c controller.Collector keys
-  collectors_walked P k0 k1 keys own a over b each n known t =
+  collectors_walked P k0 k1 keys own a over b os same each n known t =
       collectors_by keys (λ u. b.kept (slot_key controller.Collector m) (a.kept (slot_key controller.Collector m) (own u))) (λ n o u. b.kept (slot_key controller.Collector n) (over n o u)) n t
-      (λ h. walked_marked c controller.Collector kind.Configuration n keys each (collector_walked c.state n known) t)
+      (λ h. walked_marked c controller.Collector os n keys each (subst (λ xs. IsWalked xs n) (sym same) (collector_walked c.state n known)) t)
 
   module _ (by : Controller) (wide : Bool) (split : (n : Name) → IsTouched c (slot_key by n) → (c.key.name ≡ n) ⊎ (wide ≡ true)) where
     -- nothing need be walked
@@ -285,13 +294,13 @@ module _ (c : ChangeView) (m : Name) (e : m ≡ c.key.name) where
         go (inr w) = absurd (not_both w off)
 
     -- all of the kind were walked
-    pub all_walked : (P : SlotKey → Type 0) (k : Kind) (before keys : List Mark) → ((n : Name) → is_key (slot_key by n) c.state ≡ true → IsWalked c.state k n) → MarksOwn c by m before → Adds P before keys
-        → MarksEach c by (of_kind k c.state) keys → MarksAll c by keys
-    all_walked P k before keys walked own adds each n known t = go (split n t)
+    pub all_walked : (P : SlotKey → Type 0) (k : Kind) (before keys : List Mark) → ((n : Name) → is_key (slot_key by n) c.state ≡ true → IsWalked (of_kind k c.state) n) → MarksOwn c by m before → Adds P before keys
+        → (os : List Object) → os ≡ of_kind k c.state → MarksEach c by os keys → MarksAll c by keys
+    all_walked P k before keys walked own adds os same each n known t = go (split n t)
       where
         go : (c.key.name ≡ n) ⊎ (wide ≡ true) → is_marked (slot_key by n) keys ≡ true
         go (inl q) = own_marked c by m n keys (λ u. adds.kept (slot_key by m) (own u)) (e ∙ q) t
-        go (inr w) = walked_marked c by k n keys each (walked n known) t
+        go (inr w) = walked_marked c by os n keys each (subst (λ xs. IsWalked xs n) (sym same) (walked n known)) t
 
 -- ---- Routes
 
@@ -350,10 +359,10 @@ module _ (c : ChangeView) (m : Name) (e : m ≡ c.key.name) where
   pub routes_off : (keys : List Mark) → RouteMarks c m keys → is_read_by_targets c ≡ false → MarksAll c controller.Route keys
   routes_off keys h off n known t = route_by keys h n t (λ r. absurd (not_both r.reads off))
 
-  pub routes_walked : (P : SlotKey → Type 0) (before keys : List Mark) → RouteMarks c m before → Adds P before keys → MarksEach c controller.Route (of_kind kind.Route c.state) keys → MarksAll c controller.Route keys
-  routes_walked P before keys h adds each n known t =
+  pub routes_walked : (P : SlotKey → Type 0) (before keys : List Mark) → RouteMarks c m before → Adds P before keys → (os : List Object) → os ≡ in_space c.key.name.space (of_kind kind.Route c.state) → MarksEach c controller.Route os keys → MarksAll c controller.Route keys
+  routes_walked P before keys h adds os same each n known t =
       route_by keys (record { own = λ u. adds.kept (slot_key controller.Route m) (h.own u); old = λ n s p u. adds.kept (slot_key controller.Route n) (h.old n s p u); new = λ n s p u. adds.kept (slot_key controller.Route n) (h.new n s p u) }) n t
-      (λ r. walked_marked c controller.Route kind.Route n keys each (standing_walked c.state kind.Route n r.route r.stands) t)
+      (λ r. walked_marked c controller.Route os n keys each (subst (λ xs. IsWalked xs n) (sym same) (space_walked (of_kind kind.Route c.state) n c.key.name.space r.space (standing_walked c.state kind.Route n r.route r.stands))) t)
 
 -- ---- all controllers
 

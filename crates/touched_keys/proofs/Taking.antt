@@ -40,7 +40,7 @@ collected_next P os n x before after g adds here all i o lt e = go (last_or_befo
 pub collected_all : (st : State) (os : List Object) (n : ℕ) (keys : List Mark) → os ≡ of_kind kind.Configuration st → length os ≤ n → AreCollected n os keys → MarksKeys st (λ (pick : SlotKey). is_collector pick.controller ≡ true) keys
 collected_all st os n keys same le all pick known t = go pick.controller pick.name known t
   where
-    at : (m : Name) → IsWalked st kind.Configuration m → is_marked (slot_key controller.Collector m) keys ≡ true
+    at : (m : Name) → IsWalked (of_kind kind.Configuration st) m → is_marked (slot_key controller.Collector m) keys ≡ true
     at m w =
         let is : slice_get os w.place ≡ Some w.object = ap (λ xs. slice_get xs w.place) same ∙ w.is in
         let below = get_below os w.place w.object is in

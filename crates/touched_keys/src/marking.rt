@@ -12,11 +12,11 @@ use crate::marks::Mark;
 use crate::targets::targets_in;
 use crate::touches::{is_alike, is_lost, touches_of};
 use json_tree::{Copied, Text};
-use resource_types::{Controller, Key, Kind, Name, Object, SlotKey, Target};
+use resource_types::{Controller, Key, Kind, Name, Object, SlotKey, Target, walk_space};
 use slot_table::SlotTable;
 use std::alloc::{AllocError, Global};
 use std::marker::Model;
-use version_store::Store;
+use version_store::{Store, Walk};
 
 /// A change at a key.
 #[derive(Drop)]
@@ -176,18 +176,17 @@ fn mark_over(
     Ok(())
 }
 
-// Marks the controller's keys of the names of the objects of a kind, where the change touches them.
-fn mark_walk(
+// Marks the controller's keys of the names of these objects, where the change touches them.
+fn mark_each(
     alloc: Global,
     keys: &mut SlotTable<Mark>,
     change: &Change,
     controller: Controller,
-    kind: Kind,
+    objects: &Walk<Object>,
 ) -> Result<(), AllocError>
     ensures adds { Adds (IsTouched change.now) keys.old keys.new }
-    ensures all { OnOk result (MarksEach change.now controller (of_kind kind change.now.state) keys.new) }
+    ensures all { OnOk result (MarksEach change.now controller objects.now keys.new) }
 {
-    let objects = change.store.walk(kind);
     for place in 0..objects.len() {
         mark_if(alloc, keys, change, controller, &objects.at(place).key.name)?;
     }
@@ -238,7 +237,8 @@ fn mark_revisions(
 {
     mark_if(alloc, keys, change, Controller::Revision, &change.key.name)?;
     if change.walks_revisions() {
-        mark_walk(alloc, keys, change, Controller::Revision, Kind::Revision)?;
+        let revisions = change.store.walk(Kind::Revision);
+        mark_each(alloc, keys, change, Controller::Revision, &revisions)?;
     }
     Ok(())
 }
@@ -255,13 +255,8 @@ fn mark_collectors(
     mark_if(alloc, keys, change, Controller::Collector, &change.key.name)?;
     mark_over(alloc, keys, change, Controller::Collector)?;
     if change.names_revisions() {
-        mark_walk(
-            alloc,
-            keys,
-            change,
-            Controller::Collector,
-            Kind::Configuration,
-        )?;
+        let configurations = change.store.walk(Kind::Configuration);
+        mark_each(alloc, keys, change, Controller::Collector, &configurations)?;
     }
     Ok(())
 }
@@ -291,7 +286,9 @@ fn mark_routes(alloc: Global, keys: &mut SlotTable<Mark>, change: &Change) -> Re
     mark_pins(alloc, keys, change, change.old)?;
     mark_pins(alloc, keys, change, change.new)?;
     if change.is_read_by_targets() {
-        mark_walk(alloc, keys, change, Controller::Route, Kind::Route)?;
+        let space = change.key.name.space.as_str();
+        let routes = walk_space(change.store, Kind::Route, space);
+        mark_each(alloc, keys, change, Controller::Route, &routes)?;
     }
     Ok(())
 }

@@ -1,6 +1,6 @@
 use Rattle.touched_keys.specs.Changes.{IsTouched, MarksFirst}
 use Rattle.touched_keys.specs.Marks.{Adds}
-use Rattle.touched_keys.proofs.marking.mark_walk.Given as goal
+use Rattle.touched_keys.proofs.marking.mark_each.Given as goal
 
 -- the keys of the objects up to this place are marked
 abbrev pub invariant-loop-place : goal.invariant-loop-place
