@@ -17,7 +17,7 @@ use Rattle.control_touches.proofs.Among.{same_tests}
 use Rattle.touched_keys.specs.declared.marks.Mark.{Mark}
 use Rattle.touched_keys.specs.Places.{touches_at, object_before}
 use Rattle.touched_keys.specs.Marks.{is_marked, MarksView, is_collector, Adds, MarksKeys, TouchesSame}
-use Rattle.touched_keys.proofs.Placed.{placed_old}
+use Rattle.touched_keys.proofs.Placed.{placed}
 use Rattle.touched_keys.proofs.Noted.{since_next, since_none}
 use Rattle.touched_keys.proofs.Over.{last_or_before}
 use Rattle.touched_keys.proofs.Adding.{adds_then, adds_by}
@@ -59,7 +59,7 @@ collected_all st os n keys same le all pick known t = go pick.controller pick.na
 pub entry_touches : (j : Journal) (place : ℕ) (e : ObjectEntry) → slice_get j place ≡ Some e → (old new : Option Object) → new ≡ e.object → old ≡ object_before j place → (pick : SlotKey)
     → touches (state j) e.key old new pick ≡ touches_at j place pick
 unfolding touches
-entry_touches j place e g old new same before pick = placed_old j place e g pick.controller pick.name old new (touches (state j) e.key old new pick) refl same before
+entry_touches j place e g old new same before pick = placed j place e g pick.controller pick.name old new (touches (state j) e.key old new pick) refl same before
 
 -- ---- entries, one after another
 

@@ -1,19 +1,16 @@
 -- What an entry at a place of the journal changed, and what it touches.
 use Rattle.std.specs.Prelude.{ℕ, Bool, false, slice_get, Option, Some, None}
-use Rattle.resource_types.specs.declared.names.Key.{Key}
+use Rattle.version_store.specs.State as store
 use Rattle.resource_types.specs.declared.names.SlotKey.{SlotKey}
 use Rattle.resource_types.specs.declared.objects.Object.{Object}
+use Rattle.resource_types.specs.contracts.names.KeyOrd.TheImpl as key_order
 use Rattle.resource_types.specs.Lookups.{Journal, state, find}
 use Rattle.control_rules.specs.Slots.{ObjectEntry, state_at}
 use Rattle.control_touches.specs.Touches.{touches}
 
 -- the object that stood under the key of the entry at the place before it
-abbrev pub before_by : Journal → ℕ → Option ObjectEntry → Option Object
-before_by j place None = None
-before_by j place (Some e) = find e.key (state_at j place)
-
 unfoldable pub object_before : Journal → ℕ → Option Object
-object_before j place = before_by j place (slice_get j place)
+object_before j place = store.replaced_at (λ o. o.key) key_order.ghosts.cmp j place
 
 -- whether the entry touches the key
 abbrev pub touches_by : Journal → ℕ → SlotKey → Option ObjectEntry → Bool

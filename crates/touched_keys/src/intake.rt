@@ -1,7 +1,7 @@
 //! Taking entries into the set.
 ghost use Rattle.std.specs.Prelude.{◌≡◌, ◌&&◌, ◌<◌, true, length, OnOk};
 ghost use Rattle.resource_types.specs.Lookups.{state};
-ghost use Rattle.control_rules.specs.Slots.{AreStamped, slot_key, is_key};
+ghost use Rattle.control_rules.specs.Slots.{slot_key, is_key};
 ghost use Rattle.control_touches.specs.Touches.{is_touched_since};
 ghost use Rattle.touched_keys.specs.Places.{touches_at};
 ghost use Rattle.touched_keys.specs.Marks.{is_collector, is_marked, Adds, MarksKeys};
@@ -21,8 +21,7 @@ fn mark_entry(
     store: &Store<Object>,
     place: usize,
 ) -> Result<(), AllocError>
-    requires within { place < length store.now.entries }
-    requires stamped { AreStamped store.now.entries }
+    requires { place < length store.now.entries }
     ensures adds { Adds (λ pick. touches_at store.now.entries place pick ≡ true) keys.old keys.new }
     ensures all { OnOk result (MarksKeys (state store.now.entries) (λ pick. touches_at store.now.entries place pick ≡ true) keys.new) }
 {

@@ -4,7 +4,7 @@ ghost use Rattle.std.specs.List.{list_any};
 ghost use Rattle.std.specs.Option.{option_copied};
 ghost use Rattle.resource_types.specs.Lookups.{state, is_given};
 ghost use Rattle.control_rules.specs.Standing.{listed, of_its_kind, read};
-ghost use Rattle.control_rules.specs.Slots.{AreStamped, slot_key};
+ghost use Rattle.control_rules.specs.Slots.{slot_key};
 ghost use Rattle.control_touches.specs.Touches.{is_lost, is_configuration, is_changed, is_on, is_meaning, is_one_of, is_under, targets_at, is_pinned, is_alike, sight_of, is_same_sight, touches_service, touches_configuration, touches_revision, touches_collector, touches_route, touches_of};
 ghost use Rattle.touched_keys.specs.Places.{touches_at};
 
@@ -227,23 +227,11 @@ pub fn touches_of(
 
 /// Whether the entry at a place, counted from 0, touches the controller's key of the name.
 pub fn touches(store: &Store<Object>, place: usize, controller: Controller, name: &Name) -> bool
-    requires within { place < length store.now.entries }
-    requires stamped { AreStamped store.now.entries }
+    requires { place < length store.now.entries }
     ensures { result ≡ touches_at store.now.entries place (slot_key controller name.now) }
 {
     let entry = entry_at(store, place);
+    let old = object_before(store, place);
     let new = entry.object.as_ref();
-    // What stood before is sought only where it counts.
-    match controller {
-        Controller::Service => touches_of(store, &entry.key, None, new, controller, name),
-        Controller::Configuration => touches_of(store, &entry.key, None, new, controller, name),
-        _ => touches_of(
-            store,
-            &entry.key,
-            object_before(store, place),
-            new,
-            controller,
-            name,
-        ),
-    }
+    touches_of(store, &entry.key, old, new, controller, name)
 }
