@@ -16,3 +16,4 @@ pub mod Naming
 pub mod Marking
 pub mod HealthTouches
 pub mod Touched
+pub mod Found

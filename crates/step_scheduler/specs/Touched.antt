@@ -1,16 +1,21 @@
 -- Which keys of a plane are touched: to each other key nothing is due.
-use Rattle.std.specs.Prelude.{◌≡◌, ◌≢◌, ◌⊎◌, Bool, true, false, length, None}
+use Rattle.std.specs.Prelude.{◌≡◌, ◌≢◌, ◌⊎◌, Bool, true, false, List, length, None}
+use Rattle.std.specs.List.{filter}
 use Rattle.resource_types.specs.declared.names.Controller.TheVariants as controller
 use Rattle.resource_types.specs.declared.names.Name.{Name}
 use Rattle.resource_types.specs.declared.names.SlotKey.{SlotKey}
 use Rattle.control_rules.specs.Next.{next_write}
-use Rattle.control_rules.specs.Slots.{slot_key, Plane, present}
+use Rattle.control_rules.specs.Slots.{slot_key, all_keys, Plane, present}
 use Rattle.touched_keys.specs.Marks.{is_touched_in, IsTakenIn}
 use Rattle.step_scheduler.specs.Planes.{PlaneView}
 
 -- whether the key is touched
 abbrev pub is_touched : PlaneView → SlotKey → Bool
 is_touched v key = is_touched_in v.plane.journal v.marks key
+
+-- the touched keys of all controllers, in order
+abbrev pub touched_keys : PlaneView → List SlotKey
+touched_keys v = filter (is_touched v) (all_keys (present v.plane))
 
 -- no key is touched
 abbrev pub IsUntouched : PlaneView → Type 0

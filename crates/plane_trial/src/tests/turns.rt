@@ -1,12 +1,16 @@
 //! Turns, settles, and the cursor.
 use super::bodies::{CONFIGURATION, CONFIGURATION_IMAGE, SERVICE};
-use super::plays::{Row, create, first_wrong, first_wrong_after, new_plane, wrong_and_written};
+use super::plays::{
+    FIRST, Row, create, first_wrong, first_wrong_after, new_plane, wrong_and_written,
+};
 use crate::clients::Ask;
-use crate::events::{Answer, Event};
+use crate::events::{Answer, Event, happen};
 use crate::plans::{conditions, written};
-use resource_types::{ClientKind, Controller, Kind};
+use resource_types::{ClientKind, Controller, Kind, Truth};
+use std::alloc::{AllocError, Global};
 use std::test::Fail;
-use step_scheduler::StepOutcome;
+use step_scheduler::{Plane, StepOutcome};
+use version_store::Applied;
 
 const MADE: Answer = Answer::Code(201);
 
@@ -132,5 +136,39 @@ fn the_cursor_over_changing_keys(rt: HostRuntime) -> Result<(), Fail> {
     let plane = new_plane(rt.alloc())?;
     let wrong = first_wrong_after(rt.alloc(), plane, &[], &rows)?;
     assert_eq!(rt; wrong, None);
+    Ok(())
+}
+
+// What an event answers, how many keys are touched by then, and how many looks there were.
+fn touched_after(
+    alloc: Global,
+    plane: &mut Plane,
+    event: Event<'_>,
+) -> Result<(Answer, u64, u64), AllocError> {
+    let answer = happen(alloc, plane, event)?;
+    let touched = plane.touched_count()?;
+    Ok((answer, touched, plane.looks()))
+}
+
+// A new plane and a settled one have no touched key, and a settle of them makes one turn and no look. A report touches its
+// Revision.
+#[test]
+fn touched_keys(rt: HostRuntime) -> Result<(), Fail> {
+    let mut plane = new_plane(rt.alloc())?;
+    let report = Event::Report(FIRST, Truth::True);
+    let done = Applied::Done { version: 5 };
+    for (event, answer, touched, looked) in [
+        (report, Answer::Reported(None), 0, 0),
+        (Event::Settle, Answer::Count(1), 0, 0),
+        // The Configuration and its Collector.
+        (create(ClientKind::Configuration, CONFIGURATION), MADE, 2, 0),
+        (Event::Settle, Answer::Count(3), 0, 7),
+        (Event::Settle, Answer::Count(1), 0, 7),
+        (report, Answer::Reported(Some(done)), 1, 7),
+        (Event::Settle, Answer::Count(3), 0, 13),
+    ] {
+        let after = touched_after(rt.alloc(), &mut plane, event)?;
+        assert_eq!(rt; after, (answer, touched, looked), "after {event:?}");
+    }
     Ok(())
 }
