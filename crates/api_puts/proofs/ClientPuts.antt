@@ -15,7 +15,7 @@ use Rattle.resource_types.specs.declared.manifests.ManifestSpec.{ManifestSpec}
 use Rattle.resource_types.specs.declared.manifests.ManifestSpec.TheVariants as spec
 use Rattle.resource_types.specs.declared.objects.Object.{Object}
 use Rattle.resource_types.specs.Objects.{kind_of_body, owner_of, status_of, status_over}
-use Rattle.resource_types.specs.Spec.{stamped}
+use Rattle.resource_types.specs.Spec.{no_stamp, stamped}
 use Rattle.resource_types.specs.Lookups.{Journal, state, key_of}
 use Rattle.resource_types.specs.Manifests.{object_kind, manifest_spec}
 use Rattle.resource_codec.specs.Written.{kind_of as spec_kind}
@@ -23,7 +23,8 @@ use Rattle.manifest_intake.specs.Good.{IsAskedBy}
 use Rattle.manifest_intake.proofs.Storing.{client_from, accepted_passes}
 use Rattle.api_outcomes.specs.Outcomes.{ClientPlan, IsClientPut, CanBeMade}
 use Rattle.api_puts.specs.Objects.{body_of, made_over}
-use Rattle.api_puts.specs.Puts.{standing, place_key, put_of, AsksFor}
+use Rattle.control_rules.specs.Steps.{expect_of}
+use Rattle.api_puts.specs.Puts.{standing, place_key, put_of, put_under, manifest_put, AsksFor}
 
 body_kind : (s : ManifestSpec) (status : ObjectStatus) → kind_of_body (body_of s status) ≡ object_kind (spec_kind s)
 body_kind (spec.Service template traffic) status = refl
@@ -86,3 +87,11 @@ put_can_be_made journal e o plan same put =
 
 pub for_some : {A : Type 0} (P : A → Type 0) (x : A) → P x → ForSome (Some x) P
 for_some P x p y e = let same : x ≡ y = cc in subst P same p
+
+-- what a manifest makes of what stands under its own kind, namespace and name can be put
+pub manifest_can_be_put : (journal : Journal) (kind : ClientKind) (m : Manifest) → AsksFor kind m.namespace m.name m → CanBeMade journal (manifest_put journal kind m)
+unfolding put_under
+manifest_can_be_put journal kind m asks =
+    let old : Option Object = standing journal (object_kind kind) m.namespace m.name in
+    put_can_be_made journal (expect_of old) (made_over (place_key kind m.namespace m.name) old m) (manifest_put journal kind m) refl
+    (made_is_put journal kind m.namespace m.name old m no_stamp asks refl)

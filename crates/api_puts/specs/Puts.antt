@@ -15,6 +15,7 @@ use Rattle.resource_codec.specs.Storable.{IsStorable}
 use Rattle.manifest_intake.specs.Intake.{Purpose}
 use Rattle.manifest_intake.specs.Good.{IsAcceptedFor}
 use Rattle.api_outcomes.specs.declared.outcome.Outcome.{Outcome}
+use Rattle.control_rules.specs.Steps.{expect_of}
 use Rattle.api_outcomes.specs.Replies.{shown}
 use Rattle.api_outcomes.specs.Outcomes.{ClientPlan}
 use Rattle.resource_types.specs.Manifests.{object_kind}
@@ -69,3 +70,11 @@ makes journal moment kind space name m = puts 201 None expect.Absent (object_put
 abbrev pub replaces : Journal → ℕ → ClientKind → List ℕ → List ℕ → Object → Manifest → Outcome
 replaces journal moment kind space name old m =
     puts 200 (Some old) (expect.At old.meta.stamp.version) (object_put journal moment (place_key kind space name) (Some old) m)
+
+-- the put of what a manifest makes of what stands under the key, which is expected to stand
+unfoldable pub put_under : Journal → Key → Manifest → ClientPlan
+put_under journal key m = let old = find key (state journal) in put_of (expect_of old) (made_over key old m)
+
+-- the same under the manifest's own kind, namespace and name
+abbrev pub manifest_put : Journal → ClientKind → Manifest → ClientPlan
+manifest_put journal kind m = put_under journal (place_key kind m.namespace m.name) m

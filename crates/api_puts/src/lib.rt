@@ -6,4 +6,4 @@
 mod objects;
 mod puts;
 
-pub use puts::{Place, make, replace};
+pub use puts::{Place, make, put_manifest, replace};

@@ -9,13 +9,14 @@ ghost use Rattle.resource_types.specs.Lookups.{Journal, state};
 ghost use Rattle.resource_types.specs.Manifests.{object_kind};
 ghost use Rattle.resource_codec.specs.Storable.{IsStorable};
 ghost use Rattle.api_puts.specs.Puts.{StandsAs, AsksFor};
-ghost use Rattle.api_outcomes.specs.Outcomes.{IsClientPut, IsFit};
+ghost use Rattle.api_outcomes.specs.Outcomes.{IsClientPut, CanBeMade, IsFit};
+ghost use Rattle.control_rules.specs.Steps.{expect_of};
 
 use crate::objects::{key_of, made_over};
 use api_outcomes::{Outcome, shown};
 use http_session::Reply;
 use json_tree::Copied;
-use resource_types::{ClientKind, Manifest, Object};
+use resource_types::{ClientKind, Key, Manifest, Object};
 use std::alloc::{AllocError, Global};
 use version_store::{Change, Expect, Item, Plan, Store};
 
@@ -156,4 +157,47 @@ pub fn replace(
     let expect = Expect::At(old.meta.stamp.version);
     let object = object_put(alloc, store, moment, place, Some(old), manifest)?;
     put(alloc, 200, Some(old), expect, object)
+}
+
+/// What stands is expected to stand.
+fn expect_of(old: Option<&Object>) -> Expect
+    ensures { result ≡ expect_of (option_copied old.entry) }
+{
+    match old {
+        Some(object) => Expect::At(object.meta.stamp.version),
+        None => Expect::Absent,
+    }
+}
+
+/// The put of what a manifest makes of what stands under the key.
+fn put_under(
+    alloc: Global,
+    store: &Store<Object>,
+    key: Key,
+    manifest: Manifest,
+) -> Result<Plan<Object>, AllocError>
+    ensures { IfOk result (λ p. p ≡ spec.put_under store.now.entries key manifest) }
+{
+    let old = store.get(&key);
+    let expect = expect_of(old);
+    let object = made_over(alloc, key, old, manifest)?;
+    put_of(alloc, expect, object)
+}
+
+/// The put of what a manifest makes of what stands under its own kind, namespace and name, or of none where none stands.
+///
+/// No name that the manifest leaves out is given to it, and no version that it names is compared.
+pub fn put_manifest(
+    alloc: Global,
+    store: &Store<Object>,
+    kind: ClientKind,
+    manifest: Manifest,
+) -> Result<Plan<Object>, AllocError>
+    requires { AsksFor kind manifest.namespace manifest.name manifest }
+    ensures value { IfOk result (λ p. p ≡ spec.manifest_put store.now.entries kind manifest) }
+    ensures made { IfOk result (CanBeMade store.now.entries) }
+{
+    let space = manifest.namespace.as_str();
+    let key = key_of(alloc, kind.kind(), space, manifest.name.as_str())?;
+    put_under(alloc, store, key, manifest)
 }
