@@ -6,11 +6,11 @@ ghost use Rattle.json_tree.specs.Tree.{data_of};
 ghost use Rattle.json_tree.specs.declared.value.Json.{Arr};
 ghost use Rattle.resource_codec.specs.Written.{object_of};
 ghost use Rattle.resource_codec.specs.Lists.{put_type, put_event, removal_namespace, removal_event};
-ghost use Rattle.resource_codec.specs.Objects.{other_namespace};
 ghost use Rattle.resource_codec.specs.Views.{is_within, is_asked, is_born, event_json, event_of, most_events, changes_after, told_version, poll_of, AreStamped};
 ghost use Rattle.object_writer.specs.Tokens.{with_value, with_values, with_field};
 
 use crate::objects::show_object;
+use crate::tables::other_namespace;
 use crate::text::JsonText;
 use json_tree::Text;
 use resource_types::{Key, Kind, Object};
@@ -167,13 +167,6 @@ fn show_put(
     show_object(alloc, out, object)?;
     out.text_field("type", put_type(made))?;
     out.close_object()
-}
-
-// A namespace where it is not `default`.
-fn other_namespace(space: &str) -> &str
-    ensures { result.now ≡ other_namespace space.now }
-{
-    if space == "default" { "" } else { space }
 }
 
 // The namespace that a removal shows: that of a Table, where it is not `default`.

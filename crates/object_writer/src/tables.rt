@@ -38,8 +38,8 @@ fn rows_field(alloc: Global, out: &mut JsonText, rows: &Seq<Row>) -> Result<(), 
     out.close_array()
 }
 
-// The namespace, where it is not `default`.
-fn other_namespace(space: &str) -> &str
+/// A namespace where it is not `default`.
+pub fn other_namespace(space: &str) -> &str
     ensures { result.now ≡ other_namespace space.now }
 {
     if space == "default" { "" } else { space }

@@ -27,7 +27,8 @@ impl Plane {
         found: &mut Vec<SlotKey>,
     ) -> Result<(), AllocError>
         ensures { OnOk result (found.new.items
-            ≡ found.old.items ++ filter (is_touched self.now) (keys_for controller (present self.now.plane))) }
+            ≡ found.old.items
+            ++ filter (is_touched self.now) (keys_for controller (present self.now.plane))) }
     {
         for key in keys_of(self.alloc, &self.store, controller)? {
             if self.touched(&key) {
