@@ -6,6 +6,7 @@ pub mod Chains
 pub mod Untouched
 pub mod OwnKeys
 pub mod Skipping
+pub mod Ahead
 pub mod Visits
 pub mod Settling
 pub mod Cursor

@@ -1,9 +1,6 @@
 -- What a pass visits, and that it is the pass of the rules.
 use Rattle.std.proofs.Common.{◌≡◌, ℕ, ◌+◌, ◌<◌, ◌≤◌, Bool, true, false, ◌&&◌, cond, List, [], ◌∷◌, length, drop, get_or, map, Option, Some, None, Ordering, refl, sym, ap, subst, ◌∙◌}
 use Rattle.std.specs.List.{find, list_any}
-use Rattle.std.proofs.Common.{add-one}
-use Rattle.std.proofs.Math.Seq.{drop-cons}
-use Rattle.std.proofs.lemmas.List.{drop_all}
 use Rattle.std.specs.Option.{is_some, option_map}
 use Rattle.std.specs.Ordering.{is_eq, is_lt, ordering_reverse}
 use Rattle.std.specs.declared.cmp.Ordering.TheVariants.{Less, Equal, Greater}
@@ -36,28 +33,6 @@ use Rattle.step_scheduler.proofs.Chains.{round_off}
 use Rattle.step_scheduler.proofs.Untouched.{round_calm}
 use Rattle.step_scheduler.proofs.OwnKeys.{round_adds}
 use Rattle.step_scheduler.proofs.Skipping.{slot_side, in_order_for, left_of, skips_all, skips_to, skips_fall}
-
--- ---- the first among rows
-
-module _ {R : Type 0} (key_of : R → SlotKey) (p : SlotKey → Bool) (rows : List R) (i : ℕ) where
-  module _ (row : R) (lt : i < length rows) (at : row ≡ get_or rows i row) where
-    first_row : drop i rows ≡ row ∷ drop (i + 1) rows
-    first_row = drop-cons rows i row lt ∙ ap (λ n. get_or rows i row ∷ drop n rows) (sym (add-one i)) ∙ ap (λ r. r ∷ drop (i + 1) rows) (sym at)
-
-    found_from : find p (map key_of (drop i rows)) ≡ cond (p (key_of row)) (Some (key_of row)) (find p (map key_of (drop (i + 1) rows)))
-    found_from = ap (λ rs. find p (map key_of rs)) first_row
-
-    -- a row that passes
-    pub row_found : p (key_of row) ≡ true → Some (key_of row) ≡ find p (map key_of (drop i rows))
-    row_found e = sym (found_from ∙ ap (λ b. cond b (Some (key_of row)) (find p (map key_of (drop (i + 1) rows)))) e)
-
-    -- and one that doesn't
-    pub row_passed : p (key_of row) ≡ false → find p (map key_of (drop (i + 1) rows)) ≡ find p (map key_of (drop i rows))
-    row_passed e = sym (found_from ∙ ap (λ b. cond b (Some (key_of row)) (find p (map key_of (drop (i + 1) rows)))) e)
-
-  -- no row is left
-  pub rows_past : length rows ≤ i → find p (map key_of (drop i rows)) ≡ None
-  rows_past le = ap (λ rs. find p (map key_of rs)) (drop_all i rows le)
 
 -- the key is before what was found, if anything was
 abbrev IsAhead : SlotKey → Option SlotKey → Type 0

@@ -1,10 +1,11 @@
 -- The keys of a pass that are visited. Rounds of the others change nothing.
-use Rattle.std.specs.Prelude.{◌≡◌, ◌&&◌, Bool, true, cond, Option, Some, None}
+use Rattle.std.specs.Prelude.{◌≡◌, ◌&&◌, ◌||◌, not, Bool, true, cond, Option, Some, None}
 use Rattle.std.specs.Ordering.{is_lt}
 use Rattle.resource_types.specs.declared.names.Controller.{Controller}
 use Rattle.resource_types.specs.declared.names.Name.{Name}
 use Rattle.resource_types.specs.declared.names.SlotKey.{SlotKey}
 use Rattle.resource_types.specs.contracts.names.ControllerPartialEq.TheImpl as controller_eq
+use Rattle.resource_types.specs.contracts.names.ControllerOrd.TheImpl as controller_order
 use Rattle.resource_types.specs.contracts.names.SlotKeyOrd.TheImpl as slot_order
 use Rattle.resource_types.specs.Lookups.{State}
 use Rattle.control_rules.specs.Slots.{slot_key, is_key, Plane, present}
@@ -14,6 +15,10 @@ use Rattle.control_rules.specs.Turns.{round}
 -- whether the key is one of the controller's that comes after the last one
 abbrev pub is_next : Controller → Option SlotKey → State → SlotKey → Bool
 is_next c last st key = (controller_eq.ghosts.eq key.controller c && is_after last key) && is_key key st
+
+-- whether the controller's pass has the key behind it: an earlier controller's, or one that doesn't come after the last
+abbrev pub is_passed : Controller → Option SlotKey → SlotKey → Bool
+is_passed c last key = is_lt (controller_order.ghosts.cmp key.controller c) || not (is_after last key)
 
 -- whether the one key comes before the other
 abbrev pub is_before : SlotKey → SlotKey → Bool

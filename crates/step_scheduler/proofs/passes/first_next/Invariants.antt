@@ -8,4 +8,4 @@ use Rattle.step_scheduler.proofs.passes.first_next.Given as goal
 abbrev pub invariant-loop-row : goal.invariant-loop-row
 invariant-loop-row g l =
     let next = is_next l.controller l.last (state l.store.entries) in
-    find next (map g.R.Keyed.key (drop l.row-index l.rows)) ≡ find next (map g.R.Keyed.key l.rows)
+    find next (map g.R.Keyed.key (drop l.row-index l.row-items)) ≡ find next (map g.R.Keyed.key l.rows)
