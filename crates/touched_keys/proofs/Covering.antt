@@ -12,19 +12,21 @@ use Rattle.resource_types.specs.declared.names.Controller.TheVariants as control
 use Rattle.resource_types.specs.declared.specification.Target.{Target}
 use Rattle.resource_types.specs.declared.objects.Object.{Object}
 use Rattle.resource_types.specs.Objects.{same_kind, is_of, targets_of}
-use Rattle.resource_types.specs.Lookups.{State, in_space, of_kind, is_given, is_empty, is_naming, is_target_on}
-use Rattle.resource_types.proofs.Exact.{left, right, bytes-exact}
-use Rattle.control_rules.specs.Standing.{beside, key_at, listed, standing, read}
+use Rattle.resource_types.specs.Lookups.{State, find, in_space, of_kind, is_given, is_empty, is_naming, is_target_on}
+use Rattle.resource_types.proofs.Exact.{left, right, bytes-exact, kind-exact}
+use Rattle.control_rules.specs.Standing.{beside, key_at, listed, of_its_kind, standing, read}
 use Rattle.control_rules.specs.Slots.{same_name, names_of, names_for, slot_key, is_key}
-use Rattle.control_entries.proofs.Tests.{bytes_self, both, some_same, or_cases, not_both, name_exact}
+use Rattle.control_entries.specs.Ground.{IsOrdered}
+use Rattle.control_entries.proofs.Tests.{bytes_self, both, some_same, or_cases, not_both, name_exact, key_of_kind}
 use Rattle.control_entries.proofs.Lists.{filter_at, at_filter, get_below}
-use Rattle.control_entries.proofs.Standing.{Stands, stands, found_at}
+use Rattle.control_entries.proofs.Standing.{Stands, stands, found_at, kind_at}
 use Rattle.control_touches.specs.Touches.{is_one, is_one_of, is_under, is_lost, is_renamed, is_retargeted, is_retargeted_at, is_changed, is_alike, is_pinned, is_on, is_meaning, targets_in, targets_at, touches, touches_service, touches_configuration, touches_revision, touches_collector, touches_route}
 use Rattle.control_touches.proofs.Collectors.{any_by}
 use Rattle.control_touches.proofs.Own.{or_left, or_right}
+use Rattle.touched_keys.proofs.Reading.{revision_only, reading_as, route_beside}
 use Rattle.touched_keys.specs.declared.marks.Mark.{Mark}
 use Rattle.touched_keys.specs.Marks.{is_marked, Adds}
-use Rattle.touched_keys.specs.Changes.{ChangeView, IsTouched, IsOver, MarksEach, MarksAll, MarksOver, MarksPins, MarksNamed, pins_in, has_names, names_revisions, walks_revisions, is_read_by_targets}
+use Rattle.touched_keys.specs.Changes.{ChangeView, IsTouched, IsOver, MarksEach, MarksAll, MarksOver, MarksPins, MarksNamed, pins_in, has_names, names_revisions, walks_revisions, is_read_by_targets, route_targets, routes_beside, is_any_reading, is_reader, IsRouteBeside, MarksReaders}
 
 -- ---- keys, and what is walked
 
@@ -200,6 +202,7 @@ pub record IsReadAt (c : ChangeView) (n : Name) : Type 0 where
   pub space : n.space ≡ c.key.name.space
   pub route : Object
   pub stands : standing kind.Route n c.state ≡ Some route
+  pub reading : is_any_reading c n (targets_at c.state n) ≡ true
 
 -- a Route that has targets stands
 has_route : (st : State) (n : Name) (f : Target → Bool) → list_any f (targets_at st n) ≡ true → (o : Object) × (standing kind.Route n st ≡ Some o)
@@ -222,18 +225,20 @@ route_split c n t = go (or_cases t)
     test : List ℕ → Bool
     test name = is_changed (is_pinned n c.old) (is_pinned n c.new) || (not (is_alike c.old c.new) && list_any (is_meaning c.state n name) (targets_at c.state n))
 
-    read_at : is_read_by_targets c ≡ true → n.space ≡ c.key.name.space → ((o : Object) × (standing kind.Route n c.state ≡ Some o)) → IsReadAt c n
-    read_at r space (o, e) = record { reads = r; space = space; route = o; stands = e }
+    read_at : is_read_by_targets c ≡ true → n.space ≡ c.key.name.space → is_any_reading c n (targets_at c.state n) ≡ true → ((o : Object) × (standing kind.Route n c.state ≡ Some o)) → IsReadAt c n
+    read_at r space reading (o, e) = record { reads = r; space = space; route = o; stands = e; reading = reading }
 
     by : same_kind c.key.kind kind.Revision ≡ true → n.space ≡ c.key.name.space
         → (is_changed (is_pinned n c.old) (is_pinned n c.new) ≡ true) ⊎ ((not (is_alike c.old c.new) && list_any (is_meaning c.state n c.key.name.name) (targets_at c.state n)) ≡ true) → IsPinChange c n ⊎ IsReadAt c n
     by of space (inl h) = inl (record { of = of; space = space; pinned = changed_some _ _ h })
     by of space (inr h) = inr (read_at (or_right (same_kind c.key.kind kind.Configuration) _ (subst (λ b. (b && not (is_alike c.old c.new)) ≡ true) (sym of) (left (not (is_alike c.old c.new)) _ h))) space
+        (reading_as c n (targets_at c.state n) false (revision_only c.key of) (right (not (is_alike c.old c.new)) _ h))
         (has_route c.state n (is_meaning c.state n c.key.name.name) (right (not (is_alike c.old c.new)) _ h)))
 
     wide : (is_one_of kind.Configuration n.space (λ name. list_any (is_on name) (targets_at c.state n)) c.key ≡ true) ⊎ (is_one_of kind.Revision n.space test c.key ≡ true) → IsPinChange c n ⊎ IsReadAt c n
     wide (inl h) = inr (read_at (or_left _ _ (one_of_kind kind.Configuration n.space (λ name. list_any (is_on name) (targets_at c.state n)) c.key h))
         (one_of_space kind.Configuration n.space (λ name. list_any (is_on name) (targets_at c.state n)) c.key h)
+        (reading_as c n (targets_at c.state n) true (one_of_kind kind.Configuration n.space (λ name. list_any (is_on name) (targets_at c.state n)) c.key h) (one_of_test kind.Configuration n.space (λ name. list_any (is_on name) (targets_at c.state n)) c.key h))
         (has_route c.state n (is_on c.key.name.name) (one_of_test kind.Configuration n.space (λ name. list_any (is_on name) (targets_at c.state n)) c.key h)))
     wide (inr h) = by (one_of_kind kind.Revision n.space test c.key h) (one_of_space kind.Revision n.space test c.key h) (or_cases (one_of_test kind.Revision n.space test c.key h))
 
@@ -327,6 +332,12 @@ pins_all c o pins k keys same le named n space pinned = go (listed_at n.name pin
     go : ((i : ℕ) × (slice_get pins i ≡ Some n.name)) → IsTouched c (slot_key controller.Route n) → is_marked (slot_key controller.Route n) keys ≡ true
     go (i, g) = let below = get_below pins i n.name g in subst (λ z. IsTouched c (slot_key controller.Route z) → is_marked (slot_key controller.Route z) keys ≡ true) name (named i n.name (omega arith) g)
 
+-- where the Routes that read it are marked, a Route is that reads it
+reader_marked : (c : ChangeView) (n : Name) (keys : List Mark) → IsOrdered c.state → MarksReaders c (routes_beside c) keys → IsReadAt c n → IsWalked (routes_beside c) n → is_marked (slot_key controller.Route n) keys ≡ true
+reader_marked c n keys ordered each r w =
+    subst (λ z. is_any_reading c z (targets_at c.state z) ≡ true → is_marked (slot_key controller.Route z) keys ≡ true) w.name
+    (λ h. each w.place w.object w.is (ap (is_any_reading c w.object.key.name) (sym (route_beside c ordered w.place w.object w.is).targets) ∙ h)) r.reading
+
 -- the marks of a Route: its own, those of the pins before and after
 pub record RouteMarks (c : ChangeView) (m : Name) (keys : List Mark) : Type 0 where
   pub own : MarksOwn c controller.Route m keys
@@ -359,10 +370,10 @@ module _ (c : ChangeView) (m : Name) (e : m ≡ c.key.name) where
   pub routes_off : (keys : List Mark) → RouteMarks c m keys → is_read_by_targets c ≡ false → MarksAll c controller.Route keys
   routes_off keys h off n known t = route_by keys h n t (λ r. absurd (not_both r.reads off))
 
-  pub routes_walked : (P : SlotKey → Type 0) (before keys : List Mark) → RouteMarks c m before → Adds P before keys → (os : List Object) → os ≡ in_space c.key.name.space (of_kind kind.Route c.state) → MarksEach c controller.Route os keys → MarksAll c controller.Route keys
-  routes_walked P before keys h adds os same each n known t =
+  pub routes_walked : IsOrdered c.state → (P : SlotKey → Type 0) (before keys : List Mark) → RouteMarks c m before → Adds P before keys → MarksReaders c (routes_beside c) keys → MarksAll c controller.Route keys
+  routes_walked ordered P before keys h adds each n known t =
       route_by keys (record { own = λ u. adds.kept (slot_key controller.Route m) (h.own u); old = λ n s p u. adds.kept (slot_key controller.Route n) (h.old n s p u); new = λ n s p u. adds.kept (slot_key controller.Route n) (h.new n s p u) }) n t
-      (λ r. walked_marked c controller.Route os n keys each (subst (λ xs. IsWalked xs n) (sym same) (space_walked (of_kind kind.Route c.state) n c.key.name.space r.space (standing_walked c.state kind.Route n r.route r.stands))) t)
+      (λ r. reader_marked c n keys ordered each r (space_walked (of_kind kind.Route c.state) n c.key.name.space r.space (standing_walked c.state kind.Route n r.route r.stands)))
 
 -- ---- all controllers
 

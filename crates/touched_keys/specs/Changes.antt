@@ -1,5 +1,5 @@
 -- What contracts see of a change.
-use Rattle.std.specs.Prelude.{◌≡◌, ℕ, ◌<◌, ◌&&◌, ◌||◌, Bool, not, true, List, [], length, slice_get, Option, Some}
+use Rattle.std.specs.Prelude.{◌≡◌, ℕ, ◌<◌, ◌&&◌, ◌||◌, Bool, not, true, cond, List, [], length, slice_get, Option, Some}
 use Rattle.std.specs.List.{list_any}
 use Rattle.resource_types.specs.declared.names.Kind.TheVariants as kind
 use Rattle.resource_types.specs.declared.specification.Target.{Target}
@@ -8,12 +8,12 @@ use Rattle.control_rules.specs.Standing.{beside, of_its_kind, read}
 use Rattle.resource_types.specs.declared.names.Key.{Key}
 use Rattle.resource_types.specs.declared.names.SlotKey.{SlotKey}
 use Rattle.resource_types.specs.declared.objects.Object.{Object}
-use Rattle.resource_types.specs.Lookups.{State, is_empty}
+use Rattle.resource_types.specs.Lookups.{State, is_empty, of_kind, in_space}
 use Rattle.resource_types.specs.declared.names.Controller.{Controller}
 use Rattle.resource_types.specs.declared.names.Controller.TheVariants as controller
 use Rattle.resource_types.specs.declared.names.Name.{Name}
 use Rattle.control_rules.specs.Slots.{slot_key, is_key}
-use Rattle.control_touches.specs.Touches.{is_under, is_lost, is_alike, is_pinned, targets_in, touches}
+use Rattle.control_touches.specs.Touches.{is_under, is_lost, is_alike, is_pinned, is_on, is_meaning, targets_in, targets_at, touches}
 use Rattle.touched_keys.specs.declared.marks.Mark.{Mark}
 use Rattle.touched_keys.specs.Marks.{is_marked}
 
@@ -83,3 +83,34 @@ is_read_by_targets c = same_kind c.key.kind kind.Configuration || (same_kind c.k
 -- the pins of what is there; none where it isn't a Revision
 abbrev pub pins_in : Option Object → List (List ℕ)
 pins_in o = read [] pins_of (of_its_kind kind.Revision o)
+
+-- ---- Routes that read what was changed
+
+-- the targets of an object, where it is a Route
+abbrev pub route_targets : Object → List Target
+route_targets o = targets_in (of_its_kind kind.Route (Some o))
+
+-- the Routes in the namespace of the change
+abbrev pub routes_beside : ChangeView → List Object
+routes_beside c = in_space c.key.name.space (of_kind kind.Route c.state)
+
+-- whether one of the targets of the Route reads what was changed: is on the Configuration, or else means the Revision
+abbrev pub is_any_reading : ChangeView → Name → List Target → Bool
+is_any_reading c r ts = cond (same_kind c.key.kind kind.Configuration) (list_any (is_on c.key.name.name) ts) (list_any (is_meaning c.state r c.key.name.name) ts)
+
+-- whether that is so of the targets of the object
+abbrev pub is_reader : ChangeView → Object → Bool
+is_reader c o = is_any_reading c o.key.name (route_targets o)
+
+-- the object is in the namespace of the change, and its targets are those of the Route of its name
+pub record IsRouteBeside (c : ChangeView) (o : Object) : Type 0 where
+  pub space : o.key.name.space ≡ c.key.name.space
+  pub targets : targets_at c.state o.key.name ≡ route_targets o
+
+-- each of the Routes that reads what was changed is marked
+abbrev pub MarksReaders : ChangeView → List Object → List Mark → Type 0
+MarksReaders c os keys = (i : ℕ) (o : Object) → slice_get os i ≡ Some o → is_reader c o ≡ true → is_marked (slot_key controller.Route o.key.name) keys ≡ true
+
+-- the same of the first n Routes
+abbrev pub MarksReadersFirst : ℕ → ChangeView → List Object → List Mark → Type 0
+MarksReadersFirst n c os keys = (i : ℕ) (o : Object) → i < n → slice_get os i ≡ Some o → is_reader c o ≡ true → is_marked (slot_key controller.Route o.key.name) keys ≡ true

@@ -14,6 +14,7 @@ mod intake;
 mod marking;
 mod marks;
 mod names;
+mod readers;
 mod targets;
 mod touches;
 

@@ -9,10 +9,11 @@ ghost use Rattle.control_rules.specs.Standing.{beside};
 ghost use Rattle.touched_keys.specs.Changes.{has_names, names_revisions, walks_revisions, is_read_by_targets, pins_in, IsTouched, MarksEach, MarksAll, MarksOver, MarksPins};
 
 use crate::marks::Mark;
+use crate::readers::mark_readers;
 use crate::targets::targets_in;
 use crate::touches::{is_alike, is_lost, touches_of};
 use json_tree::{Copied, Text};
-use resource_types::{Controller, Key, Kind, Name, Object, SlotKey, Target, walk_space};
+use resource_types::{Controller, Key, Kind, Name, Object, SlotKey, Target};
 use slot_table::SlotTable;
 use std::alloc::{AllocError, Global};
 use std::marker::Model;
@@ -286,9 +287,7 @@ fn mark_routes(alloc: Global, keys: &mut SlotTable<Mark>, change: &Change) -> Re
     mark_pins(alloc, keys, change, change.old)?;
     mark_pins(alloc, keys, change, change.new)?;
     if change.is_read_by_targets() {
-        let space = change.key.name.space.as_str();
-        let routes = walk_space(change.store, Kind::Route, space);
-        mark_each(alloc, keys, change, Controller::Route, &routes)?;
+        mark_readers(alloc, keys, change)?;
     }
     Ok(())
 }

@@ -5,6 +5,7 @@ ghost use Rattle.std.specs.Option.{option_copied};
 ghost use Rattle.resource_types.specs.Lookups.{state, is_given, is_naming, is_target_on};
 ghost use Rattle.control_rules.specs.Standing.{listed, read};
 ghost use Rattle.control_touches.specs.Touches.{is_changed, is_renamed, is_retargeted, is_retargeted_at, is_under, targets_in, targets_at, is_on, meant_name, is_meaning};
+ghost use Rattle.touched_keys.specs.Changes.{route_targets};
 
 use crate::names::is_under;
 use controller_parts::standing;
@@ -120,6 +121,18 @@ pub fn targets_at<'a>(store: &'a Store<Object>, route: &Name) -> &'a [Target]
     ensures { result.now ≡ targets_at (state store.now.entries) route.now }
 {
     targets_in(standing(store, Kind::Route, &route.space, &route.name))
+}
+
+/// The targets of an object, where it is a Route.
+#[tactic(auto, unfolding(control_touches::specs::Touches::targets_in))]
+pub fn route_targets(object: &Object) -> &[Target]
+    ensures { result.now ≡ route_targets object.now }
+{
+    if object.is_of(Kind::Route) {
+        object.body.targets()
+    } else {
+        &[]
+    }
 }
 
 /// Whether one of the targets is on the Configuration.
