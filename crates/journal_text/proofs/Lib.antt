@@ -1,2 +1,2 @@
-mod Forms
-mod Told
+pub mod Forms
+pub mod Told

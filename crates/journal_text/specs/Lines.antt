@@ -47,17 +47,25 @@ header_of settings now =
 abbrev pub unversioned : Object → Manifest
 unversioned object = record (manifest_of object) { version = [] }
 
--- that manifest, as a text of compact JSON
+-- a manifest as a text of compact JSON
+abbrev pub manifest_text : Manifest → List ℕ
+manifest_text manifest = compact_text (data_of (written manifest))
+
+-- that of what a client would write of an object
 unfoldable pub put_text : Object → List ℕ
-put_text object = compact_text (data_of (written (unversioned object)))
+put_text object = manifest_text (unversioned object)
+
+-- a client put what the text of a manifest asks for
+abbrev pub asking_line : ℕ → List ℕ → List Member
+asking_line moment text =
+    (codes "actor", Str (codes "client"))
+    ∷ (codes "moment", Nat moment)
+    ∷ (codes "put", Str text)
+    ∷ []
 
 -- a client put this object
 unfoldable pub put_line : ℕ → Object → List Member
-put_line moment object =
-    (codes "actor", Str (codes "client"))
-    ∷ (codes "moment", Nat moment)
-    ∷ (codes "put", Str (put_text object))
-    ∷ []
+put_line moment object = asking_line moment (put_text object)
 
 -- the object that a client removed
 unfoldable pub key_members : Key → List Member
@@ -121,15 +129,19 @@ controller_word controller.Collector = codes "Collector"
 controller_word controller.Route = codes "Route"
 
 -- a controller wrote what was due to a name at its look: when it looked, and how many entries it saw
-unfoldable pub controller_line : ObjectEntry → SlotKey → List Member
-controller_line entry by =
+abbrev pub look_line : ℕ → SlotKey → ℕ → ℕ → List Member
+look_line moment by read_at seen =
     (codes "actor", Str (controller_word by.controller))
-    ∷ (codes "moment", Nat entry.moment)
+    ∷ (codes "moment", Nat moment)
     ∷ (codes "name", Str by.name.name)
     ∷ (codes "namespace", Str by.name.space)
-    ∷ (codes "readAt", Nat entry.read_at)
-    ∷ (codes "seen", Nat entry.seen)
+    ∷ (codes "readAt", Nat read_at)
+    ∷ (codes "seen", Nat seen)
     ∷ []
+
+-- the same of an entry
+unfoldable pub controller_line : ObjectEntry → SlotKey → List Member
+controller_line entry by = look_line entry.moment by entry.read_at entry.seen
 
 -- ---- an entry
 

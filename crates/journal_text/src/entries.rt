@@ -9,10 +9,21 @@ ghost use Rattle.journal_text.specs.Texts.{IsTold};
 use crate::members::{add, add_number, add_object, add_text, add_word};
 use crate::puts::put_text;
 use crate::words::{controller_word, truth_word};
-use json_tree::{Json, Members};
+use json_tree::{Json, Members, Text};
 use resource_types::{Actor, Body, Key, Name, Object, Part, SlotKey};
 use std::alloc::{AllocError, Global};
 use version_store::Entry;
+
+/// A client put what the text of a manifest asks for.
+pub fn asking_line(alloc: Global, moment: u64, text: Text) -> Result<Members, AllocError>
+    ensures { IfOk result (λ m. m.entries ≡ spec.asking_line moment text) }
+{
+    let mut members = Members::new(alloc);
+    add_word(alloc, &mut members, "actor", "client")?;
+    add_number(alloc, &mut members, "moment", moment)?;
+    add(alloc, &mut members, "put", Json::Str(text))?;
+    Ok(members)
+}
 
 /// A client put this object.
 fn put_line(alloc: Global, moment: u64, object: &Object) -> Result<Members, AllocError>
@@ -21,11 +32,7 @@ fn put_line(alloc: Global, moment: u64, object: &Object) -> Result<Members, Allo
     ensures { IfOk result (λ m. m.entries ≡ spec.put_line moment object.now) }
 {
     let text = put_text(alloc, object)?;
-    let mut members = Members::new(alloc);
-    add_word(alloc, &mut members, "actor", "client")?;
-    add_number(alloc, &mut members, "moment", moment)?;
-    add(alloc, &mut members, "put", Json::Str(text))?;
-    Ok(members)
+    asking_line(alloc, moment, text)
 }
 
 /// The object that a client removed.
@@ -40,7 +47,7 @@ fn key_members(alloc: Global, key: &Key) -> Result<Members, AllocError>
 }
 
 /// A client removed what stood under this key.
-fn removal_line(alloc: Global, moment: u64, key: &Key) -> Result<Members, AllocError>
+pub fn removal_line(alloc: Global, moment: u64, key: &Key) -> Result<Members, AllocError>
     ensures { IfOk result (λ m. m.entries ≡ spec.removal_line moment key.now) }
 {
     let removed = key_members(alloc, key)?;
@@ -63,7 +70,7 @@ fn part_members(alloc: Global, part: &Part) -> Result<Members, AllocError>
 }
 
 /// A reporter told this of the two parts of a Revision.
-fn report_line(
+pub fn report_line(
     alloc: Global,
     moment: u64,
     revision: &Name,
@@ -103,7 +110,27 @@ fn body_line(
     }
 }
 
-/// A controller wrote what was due to a name at its look.
+/// A controller wrote what was due to a name at its look, at the moment `read_at`, when it saw so many entries.
+pub fn look_line(
+    alloc: Global,
+    moment: u64,
+    by: &SlotKey,
+    read_at: u64,
+    seen: u64,
+) -> Result<Members, AllocError>
+    ensures { IfOk result (λ m. m.entries ≡ spec.look_line moment by.now read_at seen) }
+{
+    let mut members = Members::new(alloc);
+    add_word(alloc, &mut members, "actor", controller_word(by.controller))?;
+    add_number(alloc, &mut members, "moment", moment)?;
+    add_text(alloc, &mut members, "name", &by.name.name)?;
+    add_text(alloc, &mut members, "namespace", &by.name.space)?;
+    add_number(alloc, &mut members, "readAt", read_at)?;
+    add_number(alloc, &mut members, "seen", seen)?;
+    Ok(members)
+}
+
+/// The same of a controller's entry.
 fn controller_line(
     alloc: Global,
     entry: &Entry<Object>,
@@ -111,14 +138,7 @@ fn controller_line(
 ) -> Result<Members, AllocError>
     ensures { IfOk result (λ m. m.entries ≡ spec.controller_line entry.now by.now) }
 {
-    let mut members = Members::new(alloc);
-    add_word(alloc, &mut members, "actor", controller_word(by.controller))?;
-    add_number(alloc, &mut members, "moment", entry.moment)?;
-    add_text(alloc, &mut members, "name", &by.name.name)?;
-    add_text(alloc, &mut members, "namespace", &by.name.space)?;
-    add_number(alloc, &mut members, "readAt", entry.read_at)?;
-    add_number(alloc, &mut members, "seen", entry.seen)?;
-    Ok(members)
+    look_line(alloc, entry.moment, by, entry.read_at, entry.seen)
 }
 
 /// A client's entry, by what stands after it.

@@ -23,7 +23,7 @@ fn add_count(
 }
 
 /// The settings and the moment of a plane.
-pub(crate) fn header(alloc: Global, settings: &Settings, now: u64) -> Result<Members, AllocError>
+pub fn header_line(alloc: Global, settings: &Settings, now: u64) -> Result<Members, AllocError>
     ensures { IfOk result (λ m. m.entries ≡ header_of settings.now now) }
 {
     let gc = settings.gc;

@@ -12,4 +12,8 @@ mod puts;
 mod texts;
 mod words;
 
+pub use entries::{asking_line, look_line, removal_line, report_line};
 pub use exporting::export;
+pub use header::header_line;
+pub use puts::manifest_text;
+pub use texts::entry_line;

@@ -37,6 +37,16 @@ fn add_entry(alloc: Global, text: &mut Vec<u8>, entry: &Entry<Object>) -> Result
     add_line(alloc, text, members)
 }
 
+/// The line of an entry, with its line feed.
+pub fn entry_line(alloc: Global, entry: &Entry<Object>) -> Result<Vec<u8>, AllocError>
+    requires { IsTold entry.now }
+    ensures { IfOk result (λ text. text.items ≡ line_bytes (line_of entry.now)) }
+{
+    let mut text = Vec::new(alloc);
+    add_entry(alloc, &mut text, entry)?;
+    Ok(text)
+}
+
 /// Adds the lines of some entries, in their order.
 pub(crate) fn add_entries(
     alloc: Global,

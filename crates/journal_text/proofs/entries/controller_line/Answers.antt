@@ -1,7 +1,6 @@
-use Rattle.std.proofs.Common.{refl}
 use Rattle.journal_text.specs.Lines.{controller_line}
 use Rattle.journal_text.proofs.entries.controller_line.Goals as goal
 
 pub returns : goal.returns
 unfolding controller_line
-returns c = rw (c.in_ok-add_number-3.ensures, c.in_ok-add_number-2.ensures, c.in_ok-add_text-2.ensures, c.in_ok-add_text.ensures, c.in_ok-add_number.ensures, c.in_ok-add_word.ensures, c.new-members.ensures) (rw c.controller_word.ensures refl)
+returns c = c.look_line.ensures

@@ -4,12 +4,12 @@ use Rattle.resource_codec.specs.Sound.{Fits}
 use Rattle.resource_codec.specs.Written.{object_of}
 use Rattle.manifest_intake.specs.Good.{is_good}
 use Rattle.journal_text.specs.Texts.{IsTold, journal_text}
-use Rattle.journal_text.proofs.Forms.{header_fits}
+use Rattle.journal_text.proofs.Forms.{may_be_written, header_fits}
 use Rattle.journal_text.proofs.Told.{all_told}
 use Rattle.journal_text.proofs.exporting.export.Goals as goal
 
 pub add_line-requires : goal.add_line-requires
-add_line-requires c = subst (λ ms. Fits 64 (object_of ms)) (sym c.in_ok-first.ensures) (header_fits _ _)
+add_line-requires c = subst (λ ms. Fits 64 (object_of ms)) (sym c.in_ok-first.ensures) (may_be_written _ (header_fits _ _))
 
 pub add_entries-requires : goal.add_entries-requires
 add_entries-requires c =

@@ -1,6 +1,6 @@
 use Rattle.std.proofs.Common.{refl}
 use Rattle.journal_text.specs.Lines.{header_of}
-use Rattle.journal_text.proofs.header.header.Goals as goal
+use Rattle.journal_text.proofs.header.header_line.Goals as goal
 
 pub returns : goal.returns
 unfolding header_of

@@ -1,0 +1,11 @@
+mod Readings
+mod Compact
+mod Bodies
+mod Steps
+mod Others
+mod Named
+mod Says
+mod Asked
+mod Entries
+mod HeaderSays
+mod Found
