@@ -1,6 +1,6 @@
 mod Readings
 mod Compact
-mod Bodies
+pub mod Bodies
 mod Steps
 mod Others
 mod Named
@@ -8,4 +8,6 @@ mod Says
 mod Asked
 mod Entries
 mod HeaderSays
-mod Found
+pub mod Found
+pub mod Feeds
+pub mod Formed
